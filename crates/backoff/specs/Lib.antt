@@ -1,0 +1,3 @@
+pub mod Octet
+pub mod Timer
+pub mod Laws

@@ -1,0 +1,4 @@
+// Back-off timers: the octet by which the network sets one, and the timer itself.
+pub mod laws;
+pub mod octet;
+pub mod timer;
