@@ -1,3 +1,4 @@
 pub mod Octet
 pub mod Timer
 pub mod Laws
+pub mod Words

@@ -2,3 +2,4 @@
 pub mod laws;
 pub mod octet;
 pub mod timer;
+pub mod words;
