@@ -65,7 +65,8 @@ fair-octet n u octet eu ev t h past =
       reads = rw (eu, ev, t, nonzero) refl;
       not-below = m .0;
       near = rw eu (m .1);
-      shortest = λ w tw lt. past w tw (rw eu at lt) }
+      shortest = λ w tw lt. past w tw (rw eu at lt);
+    }
 
 fair : (n : ℕ) (u : TimerUnit) → timed u ≡ true → 0 < n → rounded n u ≤ 31 → Past n u → Shown n (octet-of u (rounded n u))
 fair n u t h fits past =
@@ -74,14 +75,14 @@ fair n u t h fits past =
 
 -- one unit: either it fits and its octet is fair, or the units after it are tried
 try-unit : (n : ℕ) (u : TimerUnit) (us : List TimerUnit) → timed u ≡ true → 0 < n → (rounded n u ≤ 31 → n ≤ 35712000) → Past n u
-  → (31 < rounded n u → Shows n (first-fit n us)) → Shows n (first-fit n (u ∷ us))
+    → (31 < rounded n u → Shows n (first-fit n us)) → Shows n (first-fit n (u ∷ us))
 try-unit n u us t h range past more =
     cond-both (leb (rounded n u) 31) (Ok (octet-of u (rounded n u))) (first-fit n us) (Shows n)
-      (λ e. let fits = leb-true (rounded n u) 31 e in (h, range fits, fair n u t h fits past))
-      (λ e. more (leb-false (rounded n u) 31 e))
+    (λ e. let fits = leb-true (rounded n u) 31 e in (h, range fits, fair n u t h fits past))
+    (λ e. more (leb-false (rounded n u) 31 e))
 
 by-unit : (P : TimerUnit → Type 0) → P TwoSeconds → P ThirtySeconds → P OneMinute → P TenMinutes → P OneHour → P TenHours → P ThreeHundredTwentyHours
-  → P Deactivated → (w : TimerUnit) → P w
+    → P Deactivated → (w : TimerUnit) → P w
 by-unit P a b c d e f g o TwoSeconds = a
 by-unit P a b c d e f g o ThirtySeconds = b
 by-unit P a b c d e f g o OneMinute = c
@@ -96,22 +97,22 @@ first-fit-fair n h =
     let Q : TimerUnit → TimerUnit → Type 0 = λ u w. timed w ≡ true → unit-seconds w < unit-seconds u → 31 < rounded n w in
     let out : (u : TimerUnit) → Q u Deactivated = λ u t. absurd (false≢true t) in
     try-unit n TwoSeconds (ThirtySeconds ∷ OneMinute ∷ TenMinutes ∷ OneHour ∷ TenHours ∷ ThreeHundredTwentyHours ∷ []) refl h (λ z. omega arith)
-      (by-unit (Q TwoSeconds) (λ t z. omega arith) (λ t z. omega arith) (λ t z. omega arith) (λ t z. omega arith) (λ t z. omega arith) (λ t z. omega arith) (λ t z. omega arith) (out TwoSeconds)) λ a.
+    (by-unit (Q TwoSeconds) (λ t z. omega arith) (λ t z. omega arith) (λ t z. omega arith) (λ t z. omega arith) (λ t z. omega arith) (λ t z. omega arith) (λ t z. omega arith) (out TwoSeconds)) λ a.
     try-unit n ThirtySeconds (OneMinute ∷ TenMinutes ∷ OneHour ∷ TenHours ∷ ThreeHundredTwentyHours ∷ []) refl h (λ z. omega arith)
-      (by-unit (Q ThirtySeconds) (λ t z. a) (λ t z. omega arith) (λ t z. omega arith) (λ t z. omega arith) (λ t z. omega arith) (λ t z. omega arith) (λ t z. omega arith) (out ThirtySeconds)) λ b.
+    (by-unit (Q ThirtySeconds) (λ t z. a) (λ t z. omega arith) (λ t z. omega arith) (λ t z. omega arith) (λ t z. omega arith) (λ t z. omega arith) (λ t z. omega arith) (out ThirtySeconds)) λ b.
     try-unit n OneMinute (TenMinutes ∷ OneHour ∷ TenHours ∷ ThreeHundredTwentyHours ∷ []) refl h (λ z. omega arith)
-      (by-unit (Q OneMinute) (λ t z. a) (λ t z. b) (λ t z. omega arith) (λ t z. omega arith) (λ t z. omega arith) (λ t z. omega arith) (λ t z. omega arith) (out OneMinute)) λ c.
+    (by-unit (Q OneMinute) (λ t z. a) (λ t z. b) (λ t z. omega arith) (λ t z. omega arith) (λ t z. omega arith) (λ t z. omega arith) (λ t z. omega arith) (out OneMinute)) λ c.
     try-unit n TenMinutes (OneHour ∷ TenHours ∷ ThreeHundredTwentyHours ∷ []) refl h (λ z. omega arith)
-      (by-unit (Q TenMinutes) (λ t z. a) (λ t z. b) (λ t z. c) (λ t z. omega arith) (λ t z. omega arith) (λ t z. omega arith) (λ t z. omega arith) (out TenMinutes)) λ d.
+    (by-unit (Q TenMinutes) (λ t z. a) (λ t z. b) (λ t z. c) (λ t z. omega arith) (λ t z. omega arith) (λ t z. omega arith) (λ t z. omega arith) (out TenMinutes)) λ d.
     try-unit n OneHour (TenHours ∷ ThreeHundredTwentyHours ∷ []) refl h (λ z. omega arith)
-      (by-unit (Q OneHour) (λ t z. a) (λ t z. b) (λ t z. c) (λ t z. d) (λ t z. omega arith) (λ t z. omega arith) (λ t z. omega arith) (out OneHour)) λ e.
+    (by-unit (Q OneHour) (λ t z. a) (λ t z. b) (λ t z. c) (λ t z. d) (λ t z. omega arith) (λ t z. omega arith) (λ t z. omega arith) (out OneHour)) λ e.
     try-unit n TenHours (ThreeHundredTwentyHours ∷ []) refl h (λ z. omega arith)
-      (by-unit (Q TenHours) (λ t z. a) (λ t z. b) (λ t z. c) (λ t z. d) (λ t z. e) (λ t z. omega arith) (λ t z. omega arith) (out TenHours)) λ f.
+    (by-unit (Q TenHours) (λ t z. a) (λ t z. b) (λ t z. c) (λ t z. d) (λ t z. e) (λ t z. omega arith) (λ t z. omega arith) (out TenHours)) λ f.
     try-unit n ThreeHundredTwentyHours [] refl h (λ z. omega arith)
-      (by-unit (Q ThreeHundredTwentyHours) (λ t z. a) (λ t z. b) (λ t z. c) (λ t z. d) (λ t z. e) (λ t z. f) (λ t z. omega arith) (out ThreeHundredTwentyHours)) λ g.
+    (by-unit (Q ThreeHundredTwentyHours) (λ t z. a) (λ t z. b) (λ t z. c) (λ t z. d) (λ t z. e) (λ t z. f) (λ t z. omega arith) (out ThreeHundredTwentyHours)) λ g.
     omega arith
 
 pub shown-fairly : (n : ℕ) → Shows n (shown n)
 shown-fairly n =
     cond-both (eqb n 0) (Err NoSeconds) (first-fit n ascending) (Shows n) (λ e. eqb-true n 0 e)
-      (λ e. let ne = eqb-false n 0 e in first-fit-fair n (omega arith))
+    (λ e. let ne = eqb-false n 0 e in first-fit-fair n (omega arith))

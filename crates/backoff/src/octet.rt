@@ -89,7 +89,7 @@ pub fn split(octet: u8) -> (TimerUnit, u8)
     ensures unit { λ r. ⌜ r .0 ≡ unit-of (octet / 32) ⌝ }
     ensures value { λ r. ⌜ r .1 ≡ octet % 32 ⌝ }
 {
-    (unit_of(octet), octet & 0x1F)
+    (unit_of(octet), octet % 32)
 }
 
 // What a received timer octet says.

@@ -3,7 +3,6 @@ ghost use mathlib.Core.Bool.{true};
 ghost use mathlib.Core.Path.{_≡_};
 ghost use Prim.Native.Nat.{ℕ, _+_};
 ghost use Rattle.backoff.specs.Timer.{set-to, counted, permitting, lasting};
-
 use crate::octet::TimerValue;
 
 // The state of a back-off timer: stopped, running with its seconds left, or deactivated.

@@ -4,7 +4,6 @@ ghost use Prim.Native.Nat.{_/_, _%_};
 ghost use Rattle.std.specs.declared.option.Option.the-variants.{Some};
 ghost use Rattle.backoff.specs.Octet.{unit-of};
 ghost use Rattle.backoff.specs.Words.{told};
-
 use crate::octet::TimerUnit;
 use crate::octet::split;
 use std::fmt;

@@ -20,7 +20,7 @@ one-octet d h = let small : capital d < 128 = grind (arith, tells) in encode-asc
 
 -- one octet more is written
 pub octet-written : (xs : List ℕ) (i high low : ℕ) → i < length xs → getD xs i 0 < 256 → high ≡ capital (getD xs i 0 / 16) → low ≡ capital (getD xs i 0 % 16)
-  → capitals (take i xs) ++ (encode high ++ encode low) ≡ capitals (take (i + 1) xs)
+    → capitals (take i xs) ++ (encode high ++ encode low) ≡ capitals (take (i + 1) xs)
 octet-written xs i high low h small eh el =
     let o = getD xs i 0 in
     let top = one-octet (o / 16) (omega arith) in

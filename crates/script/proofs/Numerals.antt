@@ -33,7 +33,7 @@ pub no-number : (word : List ℕ) → fitting-behind 0 word ≡ None → numeral
 no-number word e = cond-both (eqb (length word) 0) None (fitting-behind 0 word) (λ r. r ≡ None) (λ _. refl) (λ _. e)
 
 pub whole-number : (word : List ℕ) (i n : ℕ) → eqb (length word) 0 ≡ false → n < 2 ^ 32 → length word ≤ i
-  → fitting-behind 0 word ≡ fitting-behind n (drop i word) → Some n ≡ numeral word
+    → fitting-behind 0 word ≡ fitting-behind n (drop i word) → Some n ≡ numeral word
 whole-number word i n some small end e =
     let none = at-drop-all (fitting-behind n) word i end in
     let fits = lt-ltb n (2 ^ 32) small in

@@ -24,8 +24,8 @@ regroup found o (Some os) = ap (λ xs. Some xs) (sym (append-assoc found (o ∷ 
 
 -- one octet more is read
 pub octet-more : (word rest found more after : List ℕ) (o : ℕ) → 2 ≤ length rest → octets-of word ≡ behind found (octets-of rest)
-  → Some o ≡ octet-of (getD rest 0 0) (getD rest 1 0) → more ≡ found ++ o ∷ [] → after ≡ drop 2 rest
-  → octets-of word ≡ behind more (octets-of after)
+    → Some o ≡ octet-of (getD rest 0 0) (getD rest 1 0) → more ≡ found ++ o ∷ [] → after ≡ drop 2 rest
+    → octets-of word ≡ behind more (octets-of after)
 octet-more word rest found more after o h inv e m a =
     inv ∙ ap (behind found) (two-digits rest h ∙ ap (λ x. before x (octets-of (drop 2 rest))) (sym e))
     ∙ regroup found o (octets-of (drop 2 rest)) ∙ rw (m, a) refl

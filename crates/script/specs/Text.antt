@@ -1,25 +1,17 @@
--- How a text is cut into lines, and a line into words.
+-- How a line is cut into words.
 use mathlib.Core.Bool.{Bool, cond, not, _||_, _&&_}
 use mathlib.Core.List.{List}
-use Prim.Native.Nat.{ℕ, zero, suc, _+_}
+use Prim.Native.Nat.{ℕ, zero, suc}
 use lib.Dec.{eqb}
 use lib.ListN.{take, drop}
 use Rattle.std.specs.shelf.Lists.{leading}
 use Rattle.script.specs.declared.text.Run.{Run}
-use Rattle.script.specs.declared.text.Run.the-variants.{Blanks, Word, Line}
+use Rattle.script.specs.declared.text.Run.the-variants.{Blanks, Word}
 
--- the octets of each run: blanks are spaces and tabs, a word has neither, a line has no line feed
+-- the octets of each run: blanks are spaces and tabs, and a word has neither
 abbrev pub in-run : Run → ℕ → Bool
 in-run Blanks octet = eqb octet 32 || eqb octet 9
 in-run Word octet = not (eqb octet 32) && not (eqb octet 9)
-in-run Line octet = not (eqb octet 10)
-
--- a text up to its first line feed, and what follows that
-abbrev pub first-line : List ℕ → List ℕ
-first-line text = take (leading (in-run Line) text) text
-
-abbrev pub after-line : List ℕ → List ℕ
-after-line text = drop (leading (in-run Line) text + 1) text
 
 -- a line without the blanks at its front
 abbrev pub skipped : List ℕ → List ℕ

@@ -7,7 +7,6 @@ ghost use Rattle.std.specs.Results.{Cases};
 ghost use Rattle.std.specs.declared.option.Option.the-variants.{Some, None};
 ghost use Rattle.script.specs.declared.hex.HexFault.the-variants.{NoMemory};
 ghost use Rattle.script.specs.Hex.{digit-of, octet-of, octets-of, lone-octet, NotRead, capital, capitals};
-
 use std::alloc::Global;
 use std::alloc::Refused;
 use std::fmt;
@@ -69,7 +68,11 @@ pub fn octets(heap: Global, word: &[u8]) -> Result<Vec<u8>, HexFault>
         found.push(octet)?;
         rest = after;
     }
-    if rest.is_empty() { Ok(found) } else { Err(HexFault::NotHex) }
+    if rest.is_empty() {
+        Ok(found)
+    } else {
+        Err(HexFault::NotHex)
+    }
 }
 
 // The capital digit of a value below 16.
@@ -77,7 +80,11 @@ fn capital_digit(value: u8) -> char
     requires { ⌜ value < 16 ⌝ }
     ensures { λ r. ⌜ r ≡ capital value ⌝ }
 {
-    if value < 10 { char::from(b'0' + value) } else { char::from(b'A' + (value - 10)) }
+    if value < 10 {
+        char::from(b'0' + value)
+    } else {
+        char::from(b'A' + (value - 10))
+    }
 }
 
 // Octets to be printed, two capital digits each.

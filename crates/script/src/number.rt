@@ -7,7 +7,9 @@ fn with_digit(value: u32, character: u8) -> Option<u32>
     ensures { λ r. ⌜ r ≡ extended value character ⌝ }
 {
     match character {
-        b'0'..=b'9' => value.checked_mul(10)?.checked_add(u32::from(character - b'0')),
+        b'0'..=b'9' => value
+            .checked_mul(10)?
+            .checked_add(u32::from(character - b'0')),
         _ => None,
     }
 }

@@ -1,58 +1,39 @@
-// A text is cut into lines, and a line into words.
+// A line is cut into words.
 ghost use mathlib.Core.Path.{_≡_};
-ghost use Prim.Native.Nat.{ℕ, _+_, _<_, _≤_};
-ghost use lib.ListN.{length, take, drop};
+ghost use Prim.Native.Nat.{_≤_};
+ghost use lib.ListN.{length};
 ghost use Rattle.std.specs.shelf.Lists.{leading};
-ghost use Rattle.script.specs.Text.{in-run, first-line, after-line, skipped, first-word, after-word, after-words, word-at};
+ghost use Rattle.std.specs.shelf.Text.{sameBytes};
+ghost use Rattle.script.specs.Text.{in-run, skipped, after-word, word-at};
 
-// The runs that a text is cut into.
+// The runs that a line is cut into.
 #[derive(Clone, Copy)]
 enum Run {
     Blanks,
     Word,
-    Line,
 }
 
-// Whether an octet belongs to a run: blanks are spaces and tabs, a word has none, and a line has no line feed.
+// Whether an octet belongs to a run: blanks are spaces and tabs, and a word has none.
 fn belongs(run: Run, octet: u8) -> bool
     ensures { λ r. ⌜ r ≡ in-run run octet ⌝ }
 {
     match run {
         Run::Blanks => octet == b' ' || octet == b'\t',
         Run::Word => octet != b' ' && octet != b'\t',
-        Run::Line => octet != b'\n',
     }
 }
 
-// How many octets at the front of a text belong to a run.
-fn run_length(run: Run, text: &[u8]) -> usize
-    ensures count { λ r. ⌜ r ≡ leading (in-run run) (now (text .entry)) ⌝ }
-    ensures within { λ r. ⌜ r ≤ length (now (text .entry)) ⌝ }
+// How many octets at the front of a line belong to a run.
+fn run_length(run: Run, line: &[u8]) -> usize
+    ensures count { λ r. ⌜ r ≡ leading (in-run run) (now (line .entry)) ⌝ }
+    ensures within { λ r. ⌜ r ≤ length (now (line .entry)) ⌝ }
 {
-    for i in 0..text.len() {
-        if !belongs(run, text[i]) {
+    for i in 0..line.len() {
+        if !belongs(run, line[i]) {
             return i;
         }
     }
-    text.len()
-}
-
-// The first line of a text, and the text behind its line feed.
-#[derive(Clone, Copy)]
-pub struct FirstLine<'a> {
-    pub line: &'a [u8],
-    pub rest: &'a [u8],
-}
-
-// Cuts the first line off a text.
-pub fn cut_line(text: &[u8]) -> FirstLine<'_>
-    ensures line { λ r. ⌜ now (r .line) ≡ first-line (now (text .entry)) ⌝ }
-    ensures rest { λ r. ⌜ now (r .rest) ≡ after-line (now (text .entry)) ⌝ }
-    ensures shorter { λ r. ⌜ (0 < length (now (text .entry)) → length (now (r .rest)) < length (now (text .entry))) ⌝ }
-{
-    let end = run_length(Run::Line, text);
-    let rest = if end < text.len() { end + 1 } else { end };
-    FirstLine { line: &text[0..end], rest: &text[rest..] }
+    line.len()
 }
 
 // A line without the blanks at its front.
@@ -80,4 +61,11 @@ pub fn word(line: &[u8], number: usize) -> &[u8]
     }
     let begun = skip_blanks(rest);
     &begun[0..run_length(Run::Word, begun)]
+}
+
+// Whether a word is spelled like another.
+pub fn is_spelled(word: &[u8], other: &[u8]) -> bool
+    ensures { λ r. ⌜ r ≡ sameBytes (now (word .entry)) (now (other .entry)) ⌝ }
+{
+    word == other
 }

@@ -16,9 +16,10 @@ returns-in-Break-value c =
 pub loop-i-again : need.loop-i-again
 loop-i-again c =
     let word = c .args .word .now in
-    let i = c .loop-i .i in
-    (search needs,
-      c .loop-i .inv .1 ∙ step-on word i (c .loop-i .value) (c .loop-i-test .taken) ∙ ap (λ o. onward o (drop (i + 1) word)) (sym (c .in-Continue-value .ensures tt)))
+    let i = c .loop-i .i in (
+      search needs,
+      c .loop-i .inv .1 ∙ step-on word i (c .loop-i .value) (c .loop-i-test .taken) ∙ ap (λ o. onward o (drop (i + 1) word)) (sym (c .in-Continue-value .ensures tt)),
+    )
 
 pub returns : need.returns
 returns c =

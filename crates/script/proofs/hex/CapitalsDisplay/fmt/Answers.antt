@@ -18,13 +18,15 @@ loop-octet-again g c =
     let i = c .loop-octet .octet-index in
     let high = c .capital-digit-high .result in
     let low = c .capital-digit-low .result in
-    let took = g .W·Write .took in
-    (refl, λ plain.
-      let before = c .loop-octet .inv .1 plain in
-      let wrote = c .in-Continue-write .ensures tt .shows (before .plain) refl in
-      put-is took _ _ _ _ (octet-written xs i high low (c .loop-octet-test .taken) (search needs) (c .capital-digit-high .ensures)
+    let took = g .W·Write .took in (
+      refl,
+      λ plain.
+          let before = c .loop-octet .inv .1 plain in
+          let wrote = c .in-Continue-write .ensures tt .shows (before .plain) refl in
+          put-is took _ _ _ _ (octet-written xs i high low (c .loop-octet-test .taken) (search needs) (c .capital-digit-high .ensures)
           (c .capital-digit-low .ensures ∙ ap capital (and-mask (getD xs i 0) 4)))
-        (put-more took _ _ _ _ _ before wrote))
+          (put-more took _ _ _ _ _ before wrote),
+    )
 
 pub returns : need.returns
 returns g c = λ plain _.
