@@ -1,0 +1,2 @@
+// DL NAS TRANSPORT: whatever the network sends is read.
+pub mod elements;
