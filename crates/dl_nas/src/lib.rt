@@ -1,2 +1,3 @@
 // DL NAS TRANSPORT: whatever the network sends is read.
 pub mod elements;
+pub mod transport;
