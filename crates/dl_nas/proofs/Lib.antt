@@ -1,2 +1,3 @@
 pub mod Walks
 pub mod Outers
+pub mod Contents

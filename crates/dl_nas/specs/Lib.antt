@@ -1,2 +1,4 @@
 pub mod Elements
 pub mod Transport
+pub mod Content
+pub mod Container

@@ -1,3 +1,5 @@
 // DL NAS TRANSPORT: whatever the network sends is read.
+pub mod container;
+pub mod content;
 pub mod elements;
 pub mod transport;

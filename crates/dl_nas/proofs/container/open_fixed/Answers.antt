@@ -1,0 +1,15 @@
+use borrow.Author.Needs.{needs}
+use Rattle.std.proofs.shelf.Lists.{take-rest, drop-all, places}
+use Rattle.dl_nas.proofs.container.open_fixed.Needs as need
+
+pub returns-then-size-octets : need.returns-then-size-octets
+returns-then-size-octets c = search (needs, places)
+
+pub returns-else-size-octets : need.returns-else-size-octets
+returns-else-size-octets c = search (needs, places, take-rest)
+
+pub returns-in-len1-up : need.returns-in-len1-up
+returns-in-len1-up c = search (needs, take-rest)
+
+pub returns-in-Request : need.returns-in-Request
+returns-in-Request c = search (needs, take-rest, drop-all)
