@@ -32,8 +32,8 @@ module _ (xs ys : List ℕ) (place : ℕ) (k : Form) (long : 4 ≤ length xs) (f
   header-cut h = header ∙ cond-true (ltb (length ys) (fixedSize k ys)) _ _ (lt-ltb (length ys) (fixedSize k ys) h)
 
   pub header-whole : (zs : List ℕ) (at : ℕ) (r : Result Found ElementFault) → zs ≡ drop (fixedSize k ys) ys → at ≡ place + 4 + fixedSize k ys
-    → fixedSize k ys ≤ length ys → r ≡ walked zs 0 at nothing
-    → containerOf xs place ≡ innerLifted r (innerOf (getD xs 1 0) (getD xs 2 0) (fixedOf k ys))
+      → fixedSize k ys ≤ length ys → r ≡ walked zs 0 at nothing
+      → containerOf xs place ≡ innerLifted r (innerOf (getD xs 1 0) (getD xs 2 0) (fixedOf k ys))
   header-whole zs at r rest stands whole w =
       let L : Result Found ElementFault → Result Inner ContainerFault = λ s. innerLifted s (innerOf (getD xs 1 0) (getD xs 2 0) (fixedOf k ys)) in
       header ∙ cond-false (ltb (length ys) (fixedSize k ys)) _ _ (le-ltb (length ys) (fixedSize k ys) whole)

@@ -36,17 +36,17 @@ payload-is m n = ap (λ k. take k (past6 m)) same ∙ ap (λ l. take n l) (past6
 
 -- a message whose container is whole
 pub around : (m : List ℕ) → misbegun m ≡ None → payloadEnd m ≤ length m
-  → outerLifted (walked (drop (payloadEnd m) m) 0 (payloadEnd m) nothing) ≡ outerOf m
+    → outerLifted (walked (drop (payloadEnd m) m) 0 (payloadEnd m) nothing) ≡ outerOf m
 around m starts whole =
     sym (ap (λ o. begun m o) starts
-      ∙ cond-false (ltb (length m) 6) _ _ (le-ltb (length m) 6 (omega arith))
-      ∙ cond-false (ltb (length m) (payloadEnd m)) _ _ (le-ltb (length m) (payloadEnd m) whole))
+    ∙ cond-false (ltb (length m) 6) _ _ (le-ltb (length m) 6 (omega arith))
+    ∙ cond-false (ltb (length m) (payloadEnd m)) _ _ (le-ltb (length m) (payloadEnd m) whole))
 
 -- the same, by what the walk over the octets behind the container answers
 pub outer-walk : (m : List ℕ) (n : ℕ) (r : Result Found ElementFault) → n ≡ payloadLength m
-  → misbegun m ≡ None → payloadEnd m ≤ length m
-  → r ≡ walked (take (length (past6 m) - n) (drop n (past6 m))) 0 (6 + n) nothing
-  → outerLifted r ≡ outerOf m
+    → misbegun m ≡ None → payloadEnd m ≤ length m
+    → r ≡ walked (take (length (past6 m) - n) (drop n (past6 m))) 0 (6 + n) nothing
+    → outerLifted r ≡ outerOf m
 outer-walk m n r size starts whole w =
     ap (λ s. outerLifted s) (w ∙ ap (λ l. walked l 0 (6 + n) nothing) (elements-are m n) ∙ ap (λ k. walked (drop (6 + k) m) 0 (6 + k) nothing) size)
     ∙ around m starts whole

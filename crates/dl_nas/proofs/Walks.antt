@@ -59,8 +59,8 @@ abbrev pub tailOf : List ℕ → List ℕ
 tailOf xs = between 1 (length xs) xs
 
 pub turn : (rest : List ℕ) (place n : ℕ) (f g : Found) → 0 < length rest → Extent (getD rest 0 0) place (tailOf rest) (Ok n)
-  → g ≡ noted f (getD rest 0 0) place (tailOf rest)
-  → walked rest 0 place f ≡ walked (take (length (tailOf rest) - n) (drop n (tailOf rest))) 0 (place + (1 + n)) g
+    → g ≡ noted f (getD rest 0 0) place (tailOf rest)
+    → walked rest 0 place f ≡ walked (take (length (tailOf rest) - n) (drop n (tailOf rest))) 0 (place + (1 + n)) g
 turn rest place n f g h k e =
     ap (λ xs. walked xs 0 place f) (first-rest rest 0 h)
     ∙ walked-more (getD rest 0 0) place n (tailOf rest) f k
@@ -68,6 +68,6 @@ turn rest place n f g h k e =
     ∙ ap (λ y. walked (take (length (tailOf rest) - n) (drop n (tailOf rest))) 0 (place + (1 + n)) y) (sym e)
 
 pub stop : (rest : List ℕ) (place : ℕ) (f : Found) (e : ElementFault) → 0 < length rest → Extent (getD rest 0 0) place (tailOf rest) (Err e)
-  → walked rest 0 place f ≡ Err e
+    → walked rest 0 place f ≡ Err e
 stop rest place f e h k =
     ap (λ xs. walked xs 0 place f) (first-rest rest 0 h) ∙ walked-stop (getD rest 0 0) place (tailOf rest) f e k

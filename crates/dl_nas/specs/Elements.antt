@@ -39,9 +39,10 @@ firstOf here (Some t) s = Some t
 -- What is found, with the element x at `place` and what follows its identifier.
 abbrev pub noted : Found → ℕ → ℕ → List ℕ → Found
 noted f x place after = record {
-    timer = firstOf (eqb x 0x37) (f .timer) (record { octet = getD after 1 0; place = place });
-    cause = firstOf (eqb x 0x58) (f .cause) (record { octet = getD after 0 0; place = place });
-    identity = firstOf (eqb x 0x12) (f .identity) (record { octet = getD after 0 0; place = place }) }
+  timer = firstOf (eqb x 0x37) (f .timer) (record { octet = getD after 1 0; place = place });
+  cause = firstOf (eqb x 0x58) (f .cause) (record { octet = getD after 0 0; place = place });
+  identity = firstOf (eqb x 0x12) (f .identity) (record { octet = getD after 0 0; place = place });
+}
 
 abbrev pub nothing : Found
 nothing = record { timer = None; cause = None; identity = None }

@@ -2,3 +2,4 @@ pub mod Elements
 pub mod Transport
 pub mod Content
 pub mod Container
+pub mod Message

@@ -4,8 +4,7 @@ ghost use Prim.Native.Nat.{ℕ, _+_, _^_, _<_, _≤_};
 ghost use lib.ListN.{length, drop};
 ghost use Rattle.std.specs.Results.{Cases};
 ghost use Rattle.dl_nas.specs.declared.container.ContainerFault.the-variants.{Element};
-ghost use Rattle.dl_nas.specs.Container.{formOf, fixedSize, fixedOf, contentOf, octetOf, containerOf};
-
+ghost use Rattle.dl_nas.specs.Container.{formOf, fixedSize, fixedOf, contentOf, octetOf, containerOf, containerNumber, containerPlace};
 use crate::content::Content;
 use crate::elements::ElementFault;
 use crate::elements::ElementFaultDebug;
@@ -32,6 +31,32 @@ impl From<ElementFault> for ContainerFault as ContainerFromElement {
 
     fn from(fault: ElementFault) -> ContainerFault {
         ContainerFault::Element(fault)
+    }
+}
+
+impl ContainerFault {
+    // The number of the question that was answered with no.
+    pub fn number(&self) -> u8
+        ensures { λ r. ⌜ r ≡ containerNumber (now (self .entry)) ⌝ }
+    {
+        match *self {
+            ContainerFault::Element(fault) => fault.number(),
+            ContainerFault::Cut(_) => 15,
+            ContainerFault::NotSessionManagement(_) => 17,
+            ContainerFault::UnlistedType(_) => 17,
+        }
+    }
+
+    // The place of the fault, from 0 in the whole message.
+    pub fn place(&self) -> usize
+        ensures { λ r. ⌜ r ≡ containerPlace (now (self .entry)) ⌝ }
+    {
+        match *self {
+            ContainerFault::Element(fault) => fault.place(),
+            ContainerFault::Cut(place) => place,
+            ContainerFault::NotSessionManagement(place) => place,
+            ContainerFault::UnlistedType(place) => place,
+        }
     }
 }
 
@@ -103,8 +128,14 @@ fn content_of(fixed: Fixed, timer: Option<u8>) -> Content
 {
     match fixed {
         Fixed::Accept => Content::EstablishmentAccept { timer },
-        Fixed::Cause(Caused::EstablishmentReject, cause) => Content::EstablishmentReject { cause, timer },
-        Fixed::Cause(Caused::ModificationReject, cause) => Content::ModificationReject { cause, timer },
+        Fixed::Cause(Caused::EstablishmentReject, cause) => Content::EstablishmentReject {
+            cause,
+            timer,
+        },
+        Fixed::Cause(Caused::ModificationReject, cause) => Content::ModificationReject {
+            cause,
+            timer,
+        },
         Fixed::Cause(Caused::ReleaseReject, cause) => Content::ReleaseReject { cause, timer },
         Fixed::Cause(Caused::ReleaseCommand, cause) => Content::ReleaseCommand { cause, timer },
         Fixed::Cause(Caused::Status, cause) => Content::Status { cause, timer },
@@ -137,11 +168,11 @@ fn open_fixed<'a>(form: Form, part: Payload<'a>) -> Result<Opened<'a>, Container
     requires { ⌜ part .place + length (now (part .octets)) < 2 ^ 64 ⌝ }
     ensures { λ r. ⌜ Cases r
         (λ o. (o .fixed ≡ fixedOf form (now (part .entry .octets)))
-            × (now (o .rest .octets) ≡ drop (fixedSize form (now (part .entry .octets))) (now (part .entry .octets)))
-            × (o .rest .place ≡ part .entry .place + fixedSize form (now (part .entry .octets)))
-            × (fixedSize form (now (part .entry .octets)) ≤ length (now (part .entry .octets))))
+        × (now (o .rest .octets) ≡ drop (fixedSize form (now (part .entry .octets))) (now (part .entry .octets)))
+        × (o .rest .place ≡ part .entry .place + fixedSize form (now (part .entry .octets)))
+        × (fixedSize form (now (part .entry .octets)) ≤ length (now (part .entry .octets))))
         (λ e. (length (now (part .entry .octets)) < fixedSize form (now (part .entry .octets)))
-            × (e ≡ ContainerFault.Cut (part .entry .place + length (now (part .entry .octets))))) ⌝ }
+        × (e ≡ ContainerFault.Cut (part .entry .place + length (now (part .entry .octets))))) ⌝ }
 {
     let Payload { octets, place } = part;
     let end = place + octets.len();
@@ -158,16 +189,37 @@ fn open_fixed<'a>(form: Form, part: Payload<'a>) -> Result<Opened<'a>, Container
             if size > octets.len() {
                 return Err(ContainerFault::Cut(end));
             }
-            Ok(Opened { fixed: Fixed::Accept, rest: Payload { octets: &octets[size..], place: place + size } })
+            Ok(Opened {
+                fixed: Fixed::Accept,
+                rest: Payload {
+                    octets: &octets[size..],
+                    place: place + size,
+                },
+            })
         }
         Form::Cause(caused) => {
             let [cause, after @ ..] = octets else {
                 return Err(ContainerFault::Cut(end));
             };
-            Ok(Opened { fixed: Fixed::Cause(caused, *cause), rest: Payload { octets: after, place: place + 1 } })
+            Ok(Opened {
+                fixed: Fixed::Cause(caused, *cause),
+                rest: Payload {
+                    octets: after,
+                    place: place + 1,
+                },
+            })
         }
-        Form::Command => Ok(Opened { fixed: Fixed::Command, rest: part }),
-        Form::Request(returned) => Ok(Opened { fixed: Fixed::Request(returned), rest: Payload { octets: &octets[octets.len()..], place: end } }),
+        Form::Command => Ok(Opened {
+            fixed: Fixed::Command,
+            rest: part,
+        }),
+        Form::Request(returned) => Ok(Opened {
+            fixed: Fixed::Request(returned),
+            rest: Payload {
+                octets: &octets[octets.len()..],
+                place: end,
+            },
+        }),
     }
 }
 
@@ -177,15 +229,27 @@ pub(crate) fn read_container(part: Payload<'_>) -> Result<Inner, ContainerFault>
     ensures { λ r. ⌜ r ≡ containerOf (now (part .entry .octets)) (part .entry .place) ⌝ }
 {
     let [0x2E, identity, pti, message_type, rest @ ..] = part.octets else {
-        return Err(match part.octets {
-            [] | [0x2E, ..] => ContainerFault::Cut(part.place + part.octets.len()),
-            _ => ContainerFault::NotSessionManagement(part.place),
-        });
+        return Err(
+            match part.octets {
+                [] | [0x2E, ..] => ContainerFault::Cut(part.place + part.octets.len()),
+                _ => ContainerFault::NotSessionManagement(part.place),
+            },
+        );
     };
     let Some(form) = form_of(*message_type) else {
         return Err(ContainerFault::UnlistedType(part.place + 3));
     };
-    let opened = open_fixed(form, Payload { octets: rest, place: part.place + 4 })?;
+    let opened = open_fixed(
+        form,
+        Payload {
+            octets: rest,
+            place: part.place + 4,
+        },
+    )?;
     let found = walk(opened.rest.octets, opened.rest.place)?;
-    Ok(Inner { identity: *identity, pti: *pti, content: content_of(opened.fixed, octet_of(found.timer)) })
+    Ok(Inner {
+        identity: *identity,
+        pti: *pti,
+        content: content_of(opened.fixed, octet_of(found.timer)),
+    })
 }

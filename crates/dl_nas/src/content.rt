@@ -63,7 +63,9 @@ impl Content {
             Content::ReleaseReject { timer, .. } => timer,
             Content::ReleaseCommand { timer, .. } => timer,
             Content::Status { timer, .. } => timer,
-            Content::EstablishmentRequest | Content::ModificationRequest | Content::ReleaseRequest => None,
+            Content::EstablishmentRequest
+            | Content::ModificationRequest
+            | Content::ReleaseRequest => None,
         }
     }
 }

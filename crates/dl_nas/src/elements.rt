@@ -3,7 +3,7 @@ ghost use mathlib.Core.Path.{_≡_};
 ghost use Prim.Native.Nat.{ℕ, _+_, _^_, _<_, _≤_};
 ghost use lib.ListN.{length};
 ghost use Rattle.std.specs.declared.option.Option.the-variants.{None};
-ghost use Rattle.dl_nas.specs.Elements.{extent as extentOf, noted as notedIn, nothing, walked, Extent, faultAt};
+ghost use Rattle.dl_nas.specs.Elements.{extent as extentOf, noted as notedIn, nothing, walked, Extent, faultAt, elementNumber, elementPlace};
 
 // An octet that an element holds, and the place of the element's identifier.
 #[derive(Clone, Copy)]
@@ -29,6 +29,30 @@ pub enum ElementFault {
     ReservedIdentifier(usize),
     // 16, has 37 the length 1? The place is the length octet's.
     TimerLength(usize),
+}
+
+impl ElementFault {
+    // The number of the question that was answered with no.
+    pub fn number(&self) -> u8
+        ensures { λ r. ⌜ r ≡ elementNumber (now (self .entry)) ⌝ }
+    {
+        match *self {
+            ElementFault::Cut(_) => 15,
+            ElementFault::ReservedIdentifier(_) => 16,
+            ElementFault::TimerLength(_) => 16,
+        }
+    }
+
+    // The place of the fault, from 0 in the whole message.
+    pub fn place(&self) -> usize
+        ensures { λ r. ⌜ r ≡ elementPlace (now (self .entry)) ⌝ }
+    {
+        match *self {
+            ElementFault::Cut(place) => place,
+            ElementFault::ReservedIdentifier(place) => place,
+            ElementFault::TimerLength(place) => place,
+        }
+    }
 }
 
 // How many octets of `after` belong to the element whose identifier stands at `place`.
@@ -69,13 +93,22 @@ fn noted(found: Found, identifier: u8, place: usize, after: &[u8]) -> Found
     let mut found = found;
     match (identifier, after) {
         (0x37, [_, octet, ..]) if found.timer.is_none() => {
-            found.timer = Some(Seen { octet: *octet, place });
+            found.timer = Some(Seen {
+                octet: *octet,
+                place,
+            });
         }
         (0x58, [octet, ..]) if found.cause.is_none() => {
-            found.cause = Some(Seen { octet: *octet, place });
+            found.cause = Some(Seen {
+                octet: *octet,
+                place,
+            });
         }
         (0x12, [octet, ..]) if found.identity.is_none() => {
-            found.identity = Some(Seen { octet: *octet, place });
+            found.identity = Some(Seen {
+                octet: *octet,
+                place,
+            });
         }
         _ => {}
     }
@@ -87,7 +120,11 @@ pub(crate) fn walk(octets: &[u8], start: usize) -> Result<Found, ElementFault>
     requires { ⌜ start + length (now octets) < 2 ^ 64 ⌝ }
     ensures { λ r. ⌜ r ≡ walked (now (octets .entry)) 0 start nothing ⌝ }
 {
-    let mut found = Found { timer: None, cause: None, identity: None };
+    let mut found = Found {
+        timer: None,
+        cause: None,
+        identity: None,
+    };
     let mut rest = octets;
     let mut place = start;
     while let [identifier, after @ ..] = rest {

@@ -2,4 +2,5 @@
 pub mod container;
 pub mod content;
 pub mod elements;
+pub mod message;
 pub mod transport;

@@ -5,8 +5,7 @@ ghost use lib.ListN.{length};
 ghost use Rattle.std.specs.Results.{Cases};
 ghost use Rattle.std.specs.declared.result.Result.the-variants.{Ok, Err};
 ghost use Rattle.dl_nas.specs.declared.transport.TransportFault.the-variants.{Element};
-ghost use Rattle.dl_nas.specs.Transport.{outerOf, payloadOf};
-
+ghost use Rattle.dl_nas.specs.Transport.{outerOf, payloadOf, transportNumber, transportPlace};
 use crate::elements::ElementFault;
 use crate::elements::ElementFaultDebug;
 use crate::elements::ElementFaultPartialEq;
@@ -39,6 +38,30 @@ impl From<ElementFault> for TransportFault as TransportFromElement {
     }
 }
 
+impl TransportFault {
+    // The number of the question that was answered with no.
+    pub fn number(&self) -> u8
+        ensures { λ r. ⌜ r ≡ transportNumber (now (self .entry)) ⌝ }
+    {
+        match *self {
+            TransportFault::Element(fault) => fault.number(),
+            TransportFault::Cut(_) => 15,
+            TransportFault::Beginning(_) => 14,
+        }
+    }
+
+    // The place of the fault, from 0 in the whole message.
+    pub fn place(&self) -> usize
+        ensures { λ r. ⌜ r ≡ transportPlace (now (self .entry)) ⌝ }
+    {
+        match *self {
+            TransportFault::Element(fault) => fault.place(),
+            TransportFault::Cut(place) => place,
+            TransportFault::Beginning(place) => place,
+        }
+    }
+}
+
 // What the outer layer says: the elements found behind the payload container, and the container, which is not read yet.
 #[derive(Clone, Copy)]
 pub(crate) struct Outer<'a> {
@@ -56,17 +79,20 @@ fn low_half(octet: u8) -> u8
 pub(crate) fn read_outer(message: &[u8]) -> Result<Outer<'_>, TransportFault>
     ensures { λ r. ⌜ Cases r
         (λ o. (Ok (o .found) ≡ outerOf (now (message .entry)))
-            × (now (o .payload .octets) ≡ payloadOf (now (message .entry)))
-            × (o .payload .place ≡ 6))
+        × (now (o .payload .octets) ≡ payloadOf (now (message .entry)))
+        × (o .payload .place ≡ 6))
         (λ e. Err e ≡ outerOf (now (message .entry))) ⌝ }
 {
     let [0x7E, 0x00, 0x68, payload_type, rest @ ..] = message else {
-        return Err(match message {
-            [] | [0x7E] | [0x7E, 0x00] | [0x7E, 0x00, 0x68] => TransportFault::Cut(message.len()),
-            [0x7E, 0x00, ..] => TransportFault::Beginning(2),
-            [0x7E, ..] => TransportFault::Beginning(1),
-            _ => TransportFault::Beginning(0),
-        });
+        return Err(
+            match message {
+                [] | [0x7E] | [0x7E, 0x00] | [0x7E, 0x00, 0x68] =>
+                    TransportFault::Cut(message.len()),
+                [0x7E, 0x00, ..] => TransportFault::Beginning(2),
+                [0x7E, ..] => TransportFault::Beginning(1),
+                _ => TransportFault::Beginning(0),
+            },
+        );
     };
     if low_half(*payload_type) != 1 {
         return Err(TransportFault::Beginning(3));
@@ -79,5 +105,11 @@ pub(crate) fn read_outer(message: &[u8]) -> Result<Outer<'_>, TransportFault>
         return Err(TransportFault::Cut(message.len()));
     }
     let found = walk(&rest[size..], 6 + size)?;
-    Ok(Outer { found, payload: Payload { octets: &rest[0..size], place: 6 } })
+    Ok(Outer {
+        found,
+        payload: Payload {
+            octets: &rest[0..size],
+            place: 6,
+        },
+    })
 }

@@ -22,7 +22,7 @@ returns-in-Break-size c =
 pub loop-rest-again : need.loop-rest-again
 loop-rest-again c =
     let t = turn (c .loop-rest .rest .now) (c .loop-rest .place) (c .in-Continue-size .size) (c .loop-rest .found) (c .noted-found .result)
-              (omega (arith, ltb-true, ltb-false)) (c .in-Continue-size .ensures tt) (c .noted-found .ensures) in
+    (omega (arith, ltb-true, ltb-false)) (c .in-Continue-size .ensures tt) (c .noted-found .ensures) in
     (c .loop-rest .inv .0 ∙ t, search needs)
 
 pub returns : need.returns

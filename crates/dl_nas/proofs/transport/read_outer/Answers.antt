@@ -26,7 +26,8 @@ returns c =
     let n = 256 * c .from .result + c .from-2 .result in
     let size : n ≡ payloadLength m = search (needs, places) in
     let starts : misbegun m ≡ None = search needs in
-    let whole : payloadEnd m ≤ length m = search (needs, past6-is, length-drop) in
-    (outer-walk m n (Ok (c .in-Continue-found .found)) size starts whole (c .in-Continue-found .ensures tt),
+    let whole : payloadEnd m ≤ length m = search (needs, past6-is, length-drop) in (
+      outer-walk m n (Ok (c .in-Continue-found .found)) size starts whole (c .in-Continue-found .ensures tt),
       payload-is m n ∙ ap (λ k. take k (drop 6 m)) size,
-      search needs)
+      search needs,
+    )
