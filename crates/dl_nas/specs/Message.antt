@@ -14,6 +14,7 @@ use Rattle.dl_nas.specs.declared.elements.Found.{Found}
 use Rattle.dl_nas.specs.declared.transport.TransportFault.{TransportFault}
 use Rattle.dl_nas.specs.declared.container.Inner.{Inner}
 use Rattle.dl_nas.specs.declared.container.ContainerFault.{ContainerFault}
+use Rattle.dl_nas.specs.declared.content.Content.the-variants.{ReleaseCommand}
 use Rattle.dl_nas.specs.declared.message.Layer.{Layer}
 use Rattle.dl_nas.specs.declared.message.Layer.the-variants as layer
 use Rattle.dl_nas.specs.declared.message.Received.{Received}
@@ -69,3 +70,13 @@ abbrev pub placeOf : MessageFault → ℕ
 placeOf (Transport e) = transportPlace e
 placeOf (Container e) = containerPlace e
 placeOf (Identity p) = p
+
+-- What the worked octets 7E 00 68 01 00 08 2E 05 00 D3 1A 37 01 A5 12 05 say.
+abbrev pub workedReceived : Received
+workedReceived = record {
+  identity = 5;
+  pti = 0;
+  content = ReleaseCommand 0x1A (Some 0xA5);
+  «mm_cause» = None;
+  «outer_timer» = None;
+}

@@ -2,8 +2,9 @@
 ghost use mathlib.Core.Path.{_≡_};
 ghost use Prim.Native.Nat.{ℕ};
 ghost use lib.ListN.{length};
+ghost use Rattle.std.specs.declared.result.Result.the-variants.{Ok};
 ghost use Rattle.dl_nas.specs.declared.message.MessageFault.the-variants.{Transport, Container};
-ghost use Rattle.dl_nas.specs.Message.{received, agreed, numberOf, layerOf, placeOf};
+ghost use Rattle.dl_nas.specs.Message.{received, agreed, numberOf, layerOf, placeOf, workedReceived};
 use crate::container::ContainerFault;
 use crate::container::ContainerFaultDebug;
 use crate::container::ContainerFaultPartialEq;
@@ -124,4 +125,30 @@ pub fn read(message: &[u8]) -> Result<Received, MessageFault>
     let outer = read_outer(message)?;
     let inner = read_container(outer.payload)?;
     agree(outer.found, inner, message.len())
+}
+
+// Reads the worked octets of the rules: a release command with cause 1A and the timer octet A5.
+pub fn read_worked_octets() -> Result<Received, MessageFault>
+    ensures { λ r. ⌜ r ≡ Ok workedReceived ⌝ }
+{
+    read(
+        &[
+            0x7E,
+            0x00,
+            0x68,
+            0x01,
+            0x00,
+            0x08,
+            0x2E,
+            0x05,
+            0x00,
+            0xD3,
+            0x1A,
+            0x37,
+            0x01,
+            0xA5,
+            0x12,
+            0x05,
+        ],
+    )
 }

@@ -1,6 +1,6 @@
 // The outer layer of a message of the network: the beginning, the payload container with its length, and elements.
 ghost use mathlib.Core.Path.{_≡_};
-ghost use Prim.Native.Nat.{ℕ, _%_};
+ghost use Prim.Native.Nat.{ℕ};
 ghost use lib.ListN.{length};
 ghost use Rattle.std.specs.Results.{Cases};
 ghost use Rattle.std.specs.declared.result.Result.the-variants.{Ok, Err};
@@ -69,12 +69,6 @@ pub(crate) struct Outer<'a> {
     pub(crate) payload: Payload<'a>,
 }
 
-fn low_half(octet: u8) -> u8
-    ensures { λ r. ⌜ r ≡ octet % 16 ⌝ }
-{
-    octet & 0x0F
-}
-
 // Reads the outer layer whole.
 pub(crate) fn read_outer(message: &[u8]) -> Result<Outer<'_>, TransportFault>
     ensures { λ r. ⌜ Cases r
@@ -94,7 +88,8 @@ pub(crate) fn read_outer(message: &[u8]) -> Result<Outer<'_>, TransportFault>
             },
         );
     };
-    if low_half(*payload_type) != 1 {
+    // The low half of the octet is the payload container type, 1 for 5GSM information.
+    if *payload_type % 16 != 1 {
         return Err(TransportFault::Beginning(3));
     }
     let [high, low, rest @ ..] = rest else {
