@@ -36,7 +36,7 @@ impl From<ElementFault> for ContainerFault as ContainerFromElement {
 
 impl ContainerFault {
     // The number of the question that was answered with no.
-    pub fn number(&self) -> u8
+    pub(crate) fn number(&self) -> u8
         ensures { λ r. ⌜ r ≡ containerNumber (now (self .entry)) ⌝ }
     {
         match *self {
@@ -48,7 +48,7 @@ impl ContainerFault {
     }
 
     // The place of the fault, from 0 in the whole message.
-    pub fn place(&self) -> usize
+    pub(crate) fn place(&self) -> usize
         ensures { λ r. ⌜ r ≡ containerPlace (now (self .entry)) ⌝ }
     {
         match *self {

@@ -33,7 +33,7 @@ pub enum ElementFault {
 
 impl ElementFault {
     // The number of the question that was answered with no.
-    pub fn number(&self) -> u8
+    pub(crate) fn number(&self) -> u8
         ensures { λ r. ⌜ r ≡ elementNumber (now (self .entry)) ⌝ }
     {
         match *self {
@@ -44,7 +44,7 @@ impl ElementFault {
     }
 
     // The place of the fault, from 0 in the whole message.
-    pub fn place(&self) -> usize
+    pub(crate) fn place(&self) -> usize
         ensures { λ r. ⌜ r ≡ elementPlace (now (self .entry)) ⌝ }
     {
         match *self {

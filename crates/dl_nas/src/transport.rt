@@ -40,7 +40,7 @@ impl From<ElementFault> for TransportFault as TransportFromElement {
 
 impl TransportFault {
     // The number of the question that was answered with no.
-    pub fn number(&self) -> u8
+    pub(crate) fn number(&self) -> u8
         ensures { λ r. ⌜ r ≡ transportNumber (now (self .entry)) ⌝ }
     {
         match *self {
@@ -51,7 +51,7 @@ impl TransportFault {
     }
 
     // The place of the fault, from 0 in the whole message.
-    pub fn place(&self) -> usize
+    pub(crate) fn place(&self) -> usize
         ensures { λ r. ⌜ r ≡ transportPlace (now (self .entry)) ⌝ }
     {
         match *self {
