@@ -1,3 +1,4 @@
 pub mod Walks
 pub mod Outers
 pub mod Contents
+pub mod Items

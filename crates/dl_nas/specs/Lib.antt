@@ -3,3 +3,4 @@ pub mod Transport
 pub mod Content
 pub mod Container
 pub mod Message
+pub mod Format

@@ -2,5 +2,6 @@
 pub mod container;
 pub mod content;
 pub mod elements;
+pub mod laws;
 pub mod message;
 pub mod transport;
