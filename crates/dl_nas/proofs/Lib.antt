@@ -2,3 +2,5 @@ pub mod Walks
 pub mod Outers
 pub mod Contents
 pub mod Items
+pub mod Bodies
+pub mod Messages

@@ -130,3 +130,7 @@ pub record WellFormed (xs : List ℕ) (r : Received) : Type 0 where
   pub identity-is : firstValue 0x12 outer ≡ Some (r .identity)
   pub cause-is : firstValue 0x58 outer ≡ r .«mm_cause»
   pub timer-is : firstValue 0x37 outer ≡ r .«outer_timer»
+
+-- The law of the reader: it accepts exactly the messages of the format, and says of each what it says.
+abbrev pub Accepts-format : Type 0
+Accepts-format = (xs : List ℕ) (r : Received) → Iff (received xs ≡ Ok r) (WellFormed xs r)

@@ -4,6 +4,8 @@ ghost use Prim.Native.Nat.{ℕ};
 ghost use lib.ListN.{length};
 ghost use Rattle.std.specs.declared.result.Result.the-variants.{Ok};
 ghost use Rattle.dl_nas.specs.declared.message.MessageFault.the-variants.{Transport, Container};
+ghost use Rattle.dl_nas.specs.Format.{Iff, WellFormed};
+ghost use Rattle.dl_nas.specs.declared.message.Received.{Received};
 ghost use Rattle.dl_nas.specs.Message.{received, agreed, numberOf, layerOf, placeOf, workedReceived};
 use crate::container::ContainerFault;
 use crate::container::ContainerFaultDebug;
@@ -118,13 +120,22 @@ fn agree(found: Found, inner: Inner, end: usize) -> Result<Received, MessageFaul
     })
 }
 
-// Reads whatever the network sends: the transport whole, then the container, then the identity.
-pub fn read(message: &[u8]) -> Result<Received, MessageFault>
+// Reads the layers one after the other.
+fn read_layers(message: &[u8]) -> Result<Received, MessageFault>
     ensures { λ r. ⌜ r ≡ received (now (message .entry)) ⌝ }
 {
     let outer = read_outer(message)?;
     let inner = read_container(outer.payload)?;
     agree(outer.found, inner, message.len())
+}
+
+// Reads whatever the network sends: the transport whole, then the container, then the identity. It answers what the
+// octets mean, and it accepts exactly the messages of the format.
+pub fn read(message: &[u8]) -> Result<Received, MessageFault>
+    ensures answer { λ r. ⌜ r ≡ received (now (message .entry)) ⌝ }
+    ensures format { λ r. ⌜ ((m : Received) → Iff (r ≡ Ok m) (WellFormed (now (message .entry)) m)) ⌝ }
+{
+    read_layers(message)
 }
 
 // Reads the worked octets of the rules: a release command with cause 1A and the timer octet A5.
