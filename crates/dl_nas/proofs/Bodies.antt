@@ -31,7 +31,8 @@ use Rattle.dl_nas.specs.declared.container.ContainerFault.the-variants.{Elemen
 use Rattle.dl_nas.specs.Content.{messageType}
 use Rattle.dl_nas.specs.Elements.{nothing, walked}
 use Rattle.dl_nas.specs.Container.{formOf, fixedSize, fixedOf, contentOf, octetOf, innerLifted, innerOf, bodyOf, containerOf}
-use Rattle.dl_nas.specs.Format.{Item, identifier, value, octetsOf, firstValue, firstSeen, firsts, Timed, CausedBy, Blocks, Says}
+use Rattle.dl_nas.specs.Format.{Item, identifier, value, firstValue, Timed, CausedBy, Blocks, Says}
+use Rattle.dl_nas.specs.Laws.{firstSeen, firsts}
 use Rattle.dl_nas.proofs.Contents.{header-whole}
 use Rattle.dl_nas.proofs.Items.{err-ok, ok-same, walk-finds, walk-finds-first}
 

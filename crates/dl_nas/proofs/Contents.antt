@@ -1,15 +1,14 @@
 -- What a container says, once its header stands.
-use mathlib.Core.Path.{_≡_, refl, sym, ap, _∙_}
+use mathlib.Core.Path.{_≡_, sym, ap, _∙_}
 use mathlib.Core.List.{List}
-use mathlib.Core.Bool.{cond}
 use Prim.Native.Nat.{ℕ, _+_, _≤_, _<_}
 use native.Mathlib.Omega.{arith}
-use lib.Dec.{ltb, eqb}
+use lib.Dec.{ltb}
 use lib.ListN.{length, drop, getD}
 use Rattle.std.specs.declared.option.Option.{Option}
-use Rattle.std.specs.declared.option.Option.the-variants.{Some, None}
+use Rattle.std.specs.declared.option.Option.the-variants.{Some}
 use Rattle.std.specs.declared.result.Result.{Result}
-use Rattle.std.specs.declared.result.Result.the-variants.{Ok, Err}
+use Rattle.std.specs.declared.result.Result.the-variants.{Err}
 use Rattle.std.proofs.shelf.Ways.{tells}
 use Rattle.std.proofs.shelf.Tests.{lt-ltb, le-ltb, cond-true, cond-false}
 use Rattle.dl_nas.specs.declared.elements.Found.{Found}
@@ -17,7 +16,7 @@ use Rattle.dl_nas.specs.declared.elements.ElementFault.{ElementFault}
 use Rattle.dl_nas.specs.declared.container.Form.{Form}
 use Rattle.dl_nas.specs.declared.container.Inner.{Inner}
 use Rattle.dl_nas.specs.declared.container.ContainerFault.{ContainerFault}
-use Rattle.dl_nas.specs.declared.container.ContainerFault.the-variants.{Element, Cut}
+use Rattle.dl_nas.specs.declared.container.ContainerFault.the-variants.{Cut}
 use Rattle.dl_nas.specs.Elements.{walked, nothing}
 use Rattle.dl_nas.specs.Container.{formOf, fixedSize, fixedOf, innerLifted, innerOf, bodyOf, containerOf}
 

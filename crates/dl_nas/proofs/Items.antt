@@ -1,8 +1,8 @@
 -- The law of the walk: it accepts exactly the sequences of whole elements, and finds the first of each.
 use mathlib.Core.Path.{_≡_, refl, sym, ap, _∙_}
 use mathlib.Core.List.{List, [], _∷_, _++_}
-use mathlib.Core.Bool.{Bool, true, false, cond, _&&_, not}
-use mathlib.Core.Logic.{_⊎_, inl, inr, ⊎-elim}
+use mathlib.Core.Bool.{Bool, true, false, cond}
+use mathlib.Core.Logic.{_⊎_, ⊎-elim}
 use Prim.Native.Nat.{ℕ, zero, suc, _+_, _*_, _≤_, _<_}
 use native.Mathlib.Omega.{arith}
 use lib.Dec.{ltb, leb, eqb}
@@ -21,7 +21,8 @@ use Rattle.dl_nas.specs.declared.elements.Found.{Found}
 use Rattle.dl_nas.specs.declared.elements.ElementFault.{ElementFault}
 use Rattle.dl_nas.specs.declared.elements.ElementFault.the-variants.{Cut}
 use Rattle.dl_nas.specs.Elements.{extent, faultAt, firstOf, noted, nothing, unless, walked, Extent}
-use Rattle.dl_nas.specs.Format.{Item, single, pair, long, short, identifier, behind, value, paired, Lawful, AllLawful, octetsOf, firstSeen, firsts, Walk-finds-first}
+use Rattle.dl_nas.specs.Format.{Item, single, pair, long, short, identifier, behind, value, paired, Lawful, AllLawful, octetsOf}
+use Rattle.dl_nas.specs.Laws.{firstSeen, firsts, Walk-finds-first}
 use Rattle.dl_nas.proofs.Walks.{walked-more, walked-skip, walked-cut}
 
 -- a refusal is no answer, and an answer is one

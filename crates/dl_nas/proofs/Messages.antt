@@ -2,10 +2,10 @@
 use mathlib.Core.Path.{_≡_, refl, sym, ap, _∙_, subst}
 use mathlib.Core.List.{List, [], _∷_, _++_}
 use mathlib.Core.Bool.{Bool, true, false, cond}
-use Prim.Native.Nat.{ℕ, suc, _+_, _*_, _%_, _≤_, _<_}
+use Prim.Native.Nat.{ℕ, suc, _+_, _*_, _%_, _≤_}
 use native.Mathlib.Omega.{arith}
 use lib.Dec.{ltb, eqb}
-use lib.ListN.{length, drop, take, getD}
+use lib.ListN.{length, drop, getD}
 use Rattle.std.specs.Options.{isSome}
 use Rattle.std.specs.declared.option.Option.{Option}
 use Rattle.std.specs.declared.option.Option.the-variants.{Some, None}
@@ -29,10 +29,11 @@ use Rattle.dl_nas.specs.Elements.{nothing, walked}
 use Rattle.dl_nas.specs.Transport.{misbegun, payloadLength, payloadEnd, payloadOf, outerLifted, begun, outerOf}
 use Rattle.dl_nas.specs.Container.{octetOf, containerOf}
 use Rattle.dl_nas.specs.Message.{identityFault, unlessAt, agreed, contained, transported, received}
-use Rattle.dl_nas.specs.Format.{Item, AllLawful, octetsOf, firstValue, firsts, WellFormed, Accepts-format}
+use Rattle.dl_nas.specs.Format.{Item, AllLawful, octetsOf, WellFormed}
+use Rattle.dl_nas.specs.Laws.{firsts, Accepts-format}
 use Rattle.dl_nas.proofs.Outers.{around}
 use Rattle.dl_nas.proofs.Items.{err-ok, ok-same, walk-finds, walk-finds-first}
-use Rattle.dl_nas.proofs.Bodies.{pass, some-same, seen-value, Contained, container-form, container-back}
+use Rattle.dl_nas.proofs.Bodies.{pass, some-same, seen-value, container-form, container-back}
 
 -- ---- the outer layer
 abbrev headed : ℕ → ℕ → ℕ → List ℕ → List ℕ
@@ -184,5 +185,5 @@ message-back xs r w =
     ∙ ap (λ x. Ok (record { identity = r .identity; pti = r .pti; content = r .content; «mm_cause» = x; «outer_timer» = octetOf (f .timer) })) (seen-value 0x58 es (6 + n) ∙ w .cause-is)
     ∙ ap (λ x. Ok (record { identity = r .identity; pti = r .pti; content = r .content; «mm_cause» = r .«mm_cause»; «outer_timer» = x })) (seen-value 0x37 es (6 + n) ∙ w .timer-is)
 
-pub accepts-format : Accepts-format
-accepts-format xs r = (message-form xs r, message-back xs r)
+pub accepts-format : (xs : List ℕ) (answer : Result Received MessageFault) → answer ≡ received xs → Accepts-format xs answer
+accepts-format xs answer e r = (λ h. message-form xs r (sym e ∙ h), λ h. e ∙ message-back xs r h)

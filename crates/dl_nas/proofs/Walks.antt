@@ -1,11 +1,9 @@
 -- A walk that skips: past whole octets it goes on, and past the end the element is cut.
-use mathlib.Core.Path.{_≡_, refl, sym, ap, _∙_}
+use mathlib.Core.Path.{_≡_, sym, ap, _∙_}
 use mathlib.Core.List.{List, [], _∷_}
 use Prim.Native.Nat.{ℕ, zero, suc, _+_, _-_, _≤_, _<_}
 use native.Mathlib.Omega.{arith}
 use lib.ListN.{length, drop, take, getD}
-use Rattle.std.specs.declared.option.Option.{Option}
-use Rattle.std.specs.declared.option.Option.the-variants.{Some, None}
 use Rattle.std.specs.declared.result.Result.{Result}
 use Rattle.std.specs.declared.result.Result.the-variants.{Ok, Err}
 use Rattle.std.proofs.shelf.Parts.{first-rest}
@@ -14,7 +12,7 @@ use Rattle.std.specs.shelf.Lists.{between}
 use Rattle.dl_nas.specs.declared.elements.Found.{Found}
 use Rattle.dl_nas.specs.declared.elements.ElementFault.{ElementFault}
 use Rattle.dl_nas.specs.declared.elements.ElementFault.the-variants.{Cut, ReservedIdentifier, TimerLength}
-use Rattle.dl_nas.specs.Elements.{walked, unless, noted, extent, faultAt, Extent}
+use Rattle.dl_nas.specs.Elements.{walked, unless, noted, extent, Extent}
 
 at-place : (xs : List ℕ) (k p q : ℕ) (f : Found) → p ≡ q → walked xs k p f ≡ walked xs k q f
 at-place xs k p q f e = ap (λ n. walked xs k n f) e

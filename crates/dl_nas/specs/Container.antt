@@ -1,8 +1,7 @@
 -- The meaning of a payload container: 2E, identity, PTI, type, the type's fixed part, elements. `place` is the
 -- place, in the whole message, of its first octet.
-use mathlib.Core.Path.{_≡_}
 use mathlib.Core.List.{List}
-use mathlib.Core.Bool.{Bool, cond, not}
+use mathlib.Core.Bool.{cond, not}
 use Prim.Native.Nat.{ℕ, _+_, _*_}
 use lib.ListN.{getD, length, drop}
 use lib.Dec.{ltb, eqb}
@@ -15,9 +14,7 @@ use Rattle.dl_nas.specs.declared.elements.Found.{Found}
 use Rattle.dl_nas.specs.declared.elements.ElementFault.{ElementFault}
 use Rattle.dl_nas.specs.declared.content.Content.{Content}
 use Rattle.dl_nas.specs.declared.content.Content.the-variants.{EstablishmentAccept, EstablishmentReject, ModificationReject, ModificationCommand, ReleaseReject, ReleaseCommand, Status, EstablishmentRequest, ModificationRequest, ReleaseRequest}
-use Rattle.dl_nas.specs.declared.container.Caused.{Caused}
 use Rattle.dl_nas.specs.declared.container.Caused.the-variants as caused
-use Rattle.dl_nas.specs.declared.container.Returned.{Returned}
 use Rattle.dl_nas.specs.declared.container.Returned.the-variants as returned
 use Rattle.dl_nas.specs.declared.container.Form.{Form}
 use Rattle.dl_nas.specs.declared.container.Form.the-variants.{Accept, Cause, Command, Request}

@@ -1,5 +1,5 @@
 -- The format of a message of the network, in its own words: what a writer of such messages would follow. It does
--- not speak of the reader; the law at the end says that the reader accepts exactly the messages of this format.
+-- not speak of the reader; Laws says that the reader accepts exactly the messages of this format.
 use mathlib.Core.Path.{_≡_}
 use mathlib.Core.List.{List, [], _∷_, _++_}
 use mathlib.Core.Bool.{Bool, true, false, cond, _||_}
@@ -8,18 +8,10 @@ use lib.Dec.{eqb}
 use lib.ListN.{length, getD}
 use Rattle.std.specs.declared.option.Option.{Option}
 use Rattle.std.specs.declared.option.Option.the-variants.{Some, None}
-use Rattle.std.specs.declared.result.Result.the-variants.{Ok, Err}
-use Rattle.dl_nas.specs.declared.elements.Seen.{Seen}
-use Rattle.dl_nas.specs.declared.elements.Found.{Found}
 use Rattle.dl_nas.specs.declared.content.Content.{Content}
 use Rattle.dl_nas.specs.declared.content.Content.the-variants.{EstablishmentAccept, EstablishmentReject, ModificationReject, ModificationCommand, ReleaseReject, ReleaseCommand, Status, EstablishmentRequest, ModificationRequest, ReleaseRequest}
 use Rattle.dl_nas.specs.declared.message.Received.{Received}
 use Rattle.dl_nas.specs.Content.{messageType}
-use Rattle.dl_nas.specs.Elements.{nothing, walked}
-use Rattle.dl_nas.specs.Message.{received}
-
-abbrev pub Iff : Type 0 → Type 0 → Type 0
-Iff P Q = (P → Q) × (Q → P)
 
 -- An element: an identifier alone; an identifier and its value; an identifier, two length octets and the content; an
 -- identifier, one length octet (the content's length) and the content.
@@ -73,20 +65,6 @@ abbrev pub firstValue : ℕ → List Item → Option ℕ
 firstValue id [] = None
 firstValue id (e ∷ es) = cond (eqb (identifier e) id) (Some (value e)) (firstValue id es)
 
--- The same with the place of the identifier; `place` is that of the first element.
-abbrev pub firstSeen : ℕ → List Item → ℕ → Option Seen
-firstSeen id [] place = None
-firstSeen id (e ∷ es) place =
-    cond (eqb (identifier e) id) (Some (record { octet = value e; place = place })) (firstSeen id es (place + (1 + length (behind e))))
-
-abbrev pub firsts : List Item → ℕ → Found
-firsts es place = record { timer = firstSeen 0x37 es place; cause = firstSeen 0x58 es place; identity = firstSeen 0x12 es place }
-
--- The law of the walk: it accepts exactly the sequences of whole elements, and finds the first of each.
-abbrev pub Walk-finds-first : Type 0
-Walk-finds-first = (xs : List ℕ) (place : ℕ) (f : Found)
-    → Iff (walked xs 0 place nothing ≡ Ok f) ((es : List Item) × AllLawful es × (xs ≡ octetsOf es) × (f ≡ firsts es place))
-
 -- Elements of which the first 37 has the timer octet t, if there is one.
 abbrev pub Timed : Option ℕ → List ℕ → Type 0
 Timed t ys = (es : List Item) × AllLawful es × (ys ≡ octetsOf es) × (t ≡ firstValue 0x37 es)
@@ -130,7 +108,3 @@ pub record WellFormed (xs : List ℕ) (r : Received) : Type 0 where
   pub identity-is : firstValue 0x12 outer ≡ Some (r .identity)
   pub cause-is : firstValue 0x58 outer ≡ r .«mm_cause»
   pub timer-is : firstValue 0x37 outer ≡ r .«outer_timer»
-
--- The law of the reader: it accepts exactly the messages of the format, and says of each what it says.
-abbrev pub Accepts-format : Type 0
-Accepts-format = (xs : List ℕ) (r : Received) → Iff (received xs ≡ Ok r) (WellFormed xs r)

@@ -4,3 +4,4 @@ pub mod Content
 pub mod Container
 pub mod Message
 pub mod Format
+pub mod Laws

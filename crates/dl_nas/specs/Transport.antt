@@ -1,6 +1,5 @@
 -- The meaning of the outer layer: 7E 00 68, an octet whose low half is 1, a two-octet length, the payload
 -- container of that length, and elements to the end.
-use mathlib.Core.Path.{_≡_}
 use mathlib.Core.List.{List}
 use mathlib.Core.Bool.{Bool, cond, _&&_, not}
 use Prim.Native.Nat.{ℕ, _+_, _*_, _%_}

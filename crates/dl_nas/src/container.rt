@@ -1,6 +1,6 @@
 // The payload container: a header, a fixed part by the type, and elements.
 ghost use mathlib.Core.Path.{_≡_};
-ghost use Prim.Native.Nat.{ℕ, _+_, _^_, _<_, _≤_};
+ghost use Prim.Native.Nat.{_+_, _^_, _<_, _≤_};
 ghost use lib.ListN.{length, drop};
 ghost use Rattle.std.specs.Results.{Cases};
 ghost use Rattle.dl_nas.specs.declared.container.ContainerFault.the-variants.{Element};

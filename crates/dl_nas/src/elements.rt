@@ -1,6 +1,6 @@
 // The optional elements of a layer: a walk from a given octet to the layer's end.
 ghost use mathlib.Core.Path.{_≡_};
-ghost use Prim.Native.Nat.{ℕ, _+_, _^_, _<_, _≤_};
+ghost use Prim.Native.Nat.{_+_, _^_, _<_, _≤_};
 ghost use lib.ListN.{length};
 ghost use Rattle.std.specs.declared.option.Option.the-variants.{None};
 ghost use Rattle.dl_nas.specs.Elements.{extent as extentOf, noted as notedIn, nothing, walked, Extent, faultAt, elementNumber, elementPlace};

@@ -1,11 +1,8 @@
 // A whole message of the network: the outer layer, the payload container in it, and the identity that both name.
 ghost use mathlib.Core.Path.{_≡_};
-ghost use Prim.Native.Nat.{ℕ};
-ghost use lib.ListN.{length};
 ghost use Rattle.std.specs.declared.result.Result.the-variants.{Ok};
 ghost use Rattle.dl_nas.specs.declared.message.MessageFault.the-variants.{Transport, Container};
-ghost use Rattle.dl_nas.specs.Format.{Iff, WellFormed};
-ghost use Rattle.dl_nas.specs.declared.message.Received.{Received};
+ghost use Rattle.dl_nas.specs.Laws.{Accepts-format};
 ghost use Rattle.dl_nas.specs.Message.{received, agreed, numberOf, layerOf, placeOf, workedReceived};
 use crate::container::ContainerFault;
 use crate::container::ContainerFaultDebug;
@@ -14,8 +11,8 @@ use crate::container::Inner;
 use crate::container::octet_of;
 use crate::container::read_container;
 pub use crate::content::Content;
-use crate::content::ContentDebug;
-use crate::content::ContentPartialEq;
+pub use crate::content::ContentDebug;
+pub use crate::content::ContentPartialEq;
 use crate::elements::Found;
 use crate::transport::TransportFault;
 use crate::transport::TransportFaultDebug;
@@ -133,7 +130,7 @@ fn read_layers(message: &[u8]) -> Result<Received, MessageFault>
 // octets mean, and it accepts exactly the messages of the format.
 pub fn read(message: &[u8]) -> Result<Received, MessageFault>
     ensures answer { λ r. ⌜ r ≡ received (now (message .entry)) ⌝ }
-    ensures format { λ r. ⌜ ((m : Received) → Iff (r ≡ Ok m) (WellFormed (now (message .entry)) m)) ⌝ }
+    ensures format { λ r. ⌜ Accepts-format (now (message .entry)) r ⌝ }
 {
     read_layers(message)
 }

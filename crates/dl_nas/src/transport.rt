@@ -1,7 +1,5 @@
 // The outer layer of a message of the network: the beginning, the payload container with its length, and elements.
 ghost use mathlib.Core.Path.{_≡_};
-ghost use Prim.Native.Nat.{ℕ};
-ghost use lib.ListN.{length};
 ghost use Rattle.std.specs.Results.{Cases};
 ghost use Rattle.std.specs.declared.result.Result.the-variants.{Ok, Err};
 ghost use Rattle.dl_nas.specs.declared.transport.TransportFault.the-variants.{Element};

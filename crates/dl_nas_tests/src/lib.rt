@@ -5,9 +5,9 @@ ghost use lib.ListN.{length, set};
 
 #[cfg(test)]
 mod tests {
-    use dl_nas::content::ContentDebug;
-    use dl_nas::content::ContentPartialEq;
     use dl_nas::message::Content;
+    use dl_nas::message::ContentDebug;
+    use dl_nas::message::ContentPartialEq;
     use dl_nas::message::Layer;
     use dl_nas::message::LayerDebug;
     use dl_nas::message::LayerPartialEq;
