@@ -37,14 +37,14 @@ pub ok-same : {T E : Type 0} (x y : T) → _≡_ {A = Result T E} (Ok x) (Ok y) 
 ok-same x y h = ap (λ r. okOr r x) h
 
 -- ---- whole elements are accepted
-whole : (e : Item) → Lawful e → (faultAt (identifier e) 0 (behind e) ≡ None) × (length (behind e) ≡ extent (identifier e) (behind e))
+pub whole : (e : Item) → Lawful e → (faultAt (identifier e) 0 (behind e) ≡ None) × (length (behind e) ≡ extent (identifier e) (behind e))
 whole (single x) h = (grind (arith, tells), grind (arith, tells))
 whole (pair x v) h = (grind (arith, tells), grind (arith, tells))
 whole (long x a b c) h = (grind (arith, tells), grind (arith, tells))
 whole (short x c) h = (grind (arith, tells), grind (arith, tells))
 
 -- what an element says of itself does not depend on what follows it
-extent-in : (x place : ℕ) (body rest : List ℕ) → faultAt x 0 body ≡ None → length body ≡ extent x body → Extent x place (body ++ rest) (Ok (length body))
+pub extent-in : (x place : ℕ) (body rest : List ℕ) → faultAt x 0 body ≡ None → length body ≡ extent x body → Extent x place (body ++ rest) (Ok (length body))
 extent-in x place body rest right size =
     let l = length-append body rest in
     let a : 0 < length body → getD (body ++ rest) 0 0 ≡ getD body 0 0 = getD-append-left body rest 0 0 in

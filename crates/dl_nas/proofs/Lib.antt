@@ -4,3 +4,4 @@ pub mod Contents
 pub mod Items
 pub mod Bodies
 pub mod Messages
+pub mod Refusals
