@@ -1,20 +1,16 @@
 -- The law of the walk's refusals: behind whole elements the first octet at fault decides.
 use mathlib.Core.Path.{_≡_, refl, sym, ap, _∙_}
 use mathlib.Core.List.{List, [], _∷_, _++_}
-use Prim.Native.Nat.{ℕ, suc, _+_, _≤_, _<_}
+use Prim.Native.Nat.{ℕ, suc, _+_, _<_}
 use native.Mathlib.Omega.{arith}
-use lib.Dec.{ltb}
-use lib.ListN.{length, drop, getD}
+use lib.ListN.{length, getD}
 use Rattle.std.specs.declared.option.Option.the-variants.{Some, None}
-use Rattle.std.specs.declared.result.Result.{Result}
-use Rattle.std.specs.declared.result.Result.the-variants.{Ok, Err}
-use Rattle.std.proofs.shelf.Lists.{append-assoc, getD-append-left, getD-past, length-append, drop-at}
+use Rattle.std.proofs.shelf.Lists.{append-assoc, getD-append-left, length-append, drop-at}
 use Rattle.std.proofs.shelf.Ways.{tells}
 use Rattle.dl_nas.specs.declared.elements.Found.{Found}
-use Rattle.dl_nas.specs.declared.elements.ElementFault.{ElementFault}
 use Rattle.dl_nas.specs.declared.elements.ElementFault.the-variants.{Cut, ReservedIdentifier, TimerLength}
 use Rattle.dl_nas.specs.Elements.{extent, faultAt, noted, nothing, walked}
-use Rattle.dl_nas.specs.Format.{Item, identifier, behind, Lawful, AllLawful, octetsOf}
+use Rattle.dl_nas.specs.Format.{Item, identifier, behind, AllLawful, octetsOf}
 use Rattle.dl_nas.specs.Laws.{Walk-refuses-first-fault}
 use Rattle.dl_nas.proofs.Walks.{walked-more, walked-stop}
 use Rattle.dl_nas.proofs.Items.{whole, extent-in}

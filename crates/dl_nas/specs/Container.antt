@@ -1,8 +1,9 @@
 -- The meaning of a payload container: 2E, identity, PTI, type, the type's fixed part, elements. `place` is the
 -- place, in the whole message, of its first octet.
+use mathlib.Core.Path.{_≡_}
 use mathlib.Core.List.{List}
 use mathlib.Core.Bool.{cond, not}
-use Prim.Native.Nat.{ℕ, _+_, _*_}
+use Prim.Native.Nat.{ℕ, _+_, _*_, _≤_, _<_}
 use lib.ListN.{getD, length, drop}
 use lib.Dec.{ltb, eqb}
 use Rattle.std.specs.declared.option.Option.{Option}
@@ -58,6 +59,14 @@ fixedOf (Cause c) ys = fixed.Cause c (getD ys 0 0)
 fixedOf Command ys = fixed.Command
 fixedOf (Request r) ys = fixed.Request r
 
+-- What the reader of a fixed part answers: the rest of the octets and its place.
+abbrev pub Passed : Form → List ℕ → ℕ → List ℕ → ℕ → Type 0
+Passed k ys place rest at = (rest ≡ drop (fixedSize k ys) ys) × (at ≡ place + fixedSize k ys) × (fixedSize k ys ≤ length ys)
+
+-- Or the fixed part is cut, one past the container's last octet.
+abbrev pub FixedCut : Form → List ℕ → ℕ → ContainerFault → Type 0
+FixedCut k ys place e = (length ys < fixedSize k ys) × (e ≡ Cut (place + length ys))
+
 -- The content, from the fixed part and the timer octet of the elements.
 abbrev pub contentOf : Fixed → Option ℕ → Content
 contentOf fixed.Accept t = EstablishmentAccept t
@@ -100,13 +109,14 @@ containerOf xs place =
     (cond (ltb (length xs) 4) (Err (Cut (place + length xs)))
     (bodyOf (getD xs 1 0) (getD xs 2 0) (formOf (getD xs 3 0)) (drop 4 xs) place)))
 
--- The number and the place of a container's fault: 15, is nothing cut short? 17, is 2E there, and a type listed for the network?
+-- The number of a container's fault: 15, is nothing cut short? 17, is 2E there, and a type listed for the network?
 abbrev pub containerNumber : ContainerFault → ℕ
 containerNumber (Element e) = elementNumber e
 containerNumber (Cut p) = 15
 containerNumber (NotSessionManagement p) = 17
 containerNumber (UnlistedType p) = 17
 
+-- The place of a container's fault.
 abbrev pub containerPlace : ContainerFault → ℕ
 containerPlace (Element e) = elementPlace e
 containerPlace (Cut p) = p

@@ -44,6 +44,7 @@ noted f x place after = record {
   identity = firstOf (eqb x 0x12) (f .identity) (record { octet = getD after 0 0; place = place });
 }
 
+-- No element is found yet.
 abbrev pub nothing : Found
 nothing = record { timer = None; cause = None; identity = None }
 
@@ -67,12 +68,13 @@ Extent x place after (Err (Cut p)) = (faultAt x place after ≡ None) × (length
 Extent x place after (Err (ReservedIdentifier p)) = faultAt x place after ≡ Some (ReservedIdentifier p)
 Extent x place after (Err (TimerLength p)) = faultAt x place after ≡ Some (TimerLength p)
 
--- The number and the place of an element's fault: 15, is nothing cut short? 16, is no identifier 00 to 0F, and 37 of length 1?
+-- The number of an element's fault: 15, is nothing cut short? 16, is no identifier 00 to 0F, and 37 of length 1?
 abbrev pub elementNumber : ElementFault → ℕ
 elementNumber (Cut p) = 15
 elementNumber (ReservedIdentifier p) = 16
 elementNumber (TimerLength p) = 16
 
+-- The place of an element's fault.
 abbrev pub elementPlace : ElementFault → ℕ
 elementPlace (Cut p) = p
 elementPlace (ReservedIdentifier p) = p

@@ -21,6 +21,7 @@ pub data Item : Type 0 where
   long : ℕ → ℕ → ℕ → List ℕ → Item
   short : ℕ → List ℕ → Item
 
+-- The identifier.
 abbrev pub identifier : Item → ℕ
 identifier (single x) = x
 identifier (pair x v) = x
@@ -34,7 +35,8 @@ behind (pair x v) = v ∷ []
 behind (long x h l c) = h ∷ (l ∷ c)
 behind (short x c) = length c ∷ c
 
--- The first octet of the content: the timer octet of 37, the 5GMM cause of 58, the identity of 12.
+-- The first octet of the content: the timer octet of 37, the 5GMM cause of 58, the identity of 12. An element of
+-- one octet has none, and is not looked for.
 abbrev pub value : Item → ℕ
 value (single x) = 0
 value (pair x v) = v
@@ -52,10 +54,12 @@ Lawful (pair x v) = paired x ≡ true
 Lawful (long x h l c) = (0x70 ≤ x) × (x < 0x80) × (length c ≡ 256 * h + l)
 Lawful (short x c) = (0x10 ≤ x) × (x < 0x70) × (paired x ≡ false) × (x ≡ 0x37 → length c ≡ 1)
 
+-- Every element of a list is lawful.
 abbrev pub AllLawful : List Item → Type 0
 AllLawful [] = Unit {0}
 AllLawful (e ∷ es) = Lawful e × AllLawful es
 
+-- The octets of a list of elements.
 abbrev pub octetsOf : List Item → List ℕ
 octetsOf [] = []
 octetsOf (e ∷ es) = identifier e ∷ (behind e ++ octetsOf es)
@@ -78,7 +82,7 @@ abbrev pub Blocks : Option ℕ → List ℕ → Type 0
 Blocks t ys = (m : ℕ) × (h : ℕ) × (l : ℕ) × (first : List ℕ) × (second : List ℕ) × (rest : List ℕ)
     × (ys ≡ m ∷ (h ∷ (l ∷ (first ++ (length second ∷ (second ++ rest)))))) × (length first ≡ 256 * h + l) × Timed t rest
 
--- What stands behind the type, by the content.
+-- What stands behind the type, by the content. Of the handset's own messages that is not looked at.
 abbrev pub Says : Content → List ℕ → Type 0
 Says (EstablishmentAccept t) ys = Blocks t ys
 Says (EstablishmentReject c t) ys = CausedBy c t ys
@@ -94,9 +98,11 @@ Says ReleaseRequest ys = Unit {0}
 -- The octets xs are a message of the network that says r: the beginning, the container's length, the container
 -- (2E, identity, PTI, type and what stands behind it), and elements, of which the first 12 has the container's identity.
 pub record WellFormed (xs : List ℕ) (r : Received) : Type 0 where
+  -- the fourth octet, and the two octets of the container's length
   pub half : ℕ
   pub high : ℕ
   pub low : ℕ
+  -- what stands behind the type, and the elements behind the container
   pub body : List ℕ
   pub outer : List Item
   pub octets-are : xs ≡ 0x7E ∷ (0x00 ∷ (0x68 ∷ (half ∷ (high ∷ (low ∷

@@ -17,6 +17,7 @@ use Rattle.dl_nas.specs.declared.message.MessageFault.{MessageFault}
 use Rattle.dl_nas.specs.Elements.{nothing, walked}
 use Rattle.dl_nas.specs.Format.{Item, identifier, behind, value, Lawful, AllLawful, octetsOf, WellFormed}
 
+-- One holds exactly when the other does.
 abbrev pub Iff : Type 0 → Type 0 → Type 0
 Iff P Q = (P → Q) × (Q → P)
 
@@ -46,6 +47,7 @@ pub record Refuses-behind (es : List Item) (place : ℕ) : Type 0 where
   pub cut : (e : Item) (zs ws : List ℕ) → Lawful e → behind e ≡ zs ++ ws → 0 < length ws
       → walked (octetsOf es ++ (identifier e ∷ zs)) 0 place nothing ≡ Err (Cut (place + length (octetsOf es) + 1 + length zs))
 
+-- The law of the walk's refusals.
 abbrev pub Walk-refuses-first-fault : Type 0
 Walk-refuses-first-fault = (es : List Item) (place : ℕ) → AllLawful es → Refuses-behind es place
 

@@ -28,6 +28,7 @@ abbrev pub identityFault : Option Seen → ℕ → ℕ → Option ℕ
 identityFault None identity end = Some end
 identityFault (Some s) identity end = cond (eqb (s .octet) identity) None (Some (s .place))
 
+-- 18, or what was read.
 abbrev pub unlessAt : Option ℕ → Received → Result Received MessageFault
 unlessAt None r = Ok r
 unlessAt (Some place) r = Err (Identity place)
@@ -47,6 +48,7 @@ abbrev pub contained : Found → ℕ → Result Inner ContainerFault → Result 
 contained f end (Ok c) = agreed f c end
 contained f end (Err e) = Err (Container e)
 
+-- The container, if the outer layer is right.
 abbrev pub transported : List ℕ → Result Found TransportFault → Result Received MessageFault
 transported xs (Ok f) = contained f (length xs) (containerOf (payloadOf xs) 6)
 transported xs (Err e) = Err (Transport e)
@@ -55,17 +57,19 @@ transported xs (Err e) = Err (Transport e)
 abbrev pub received : List ℕ → Result Received MessageFault
 received xs = transported xs (outerOf xs)
 
--- The number, the layer and the place of a fault. 18, is 12 there and equal to the inner identity? It is the transport's.
+-- The number of a fault: that of its layer, or 18, is 12 there and equal to the inner identity?
 abbrev pub numberOf : MessageFault → ℕ
 numberOf (Transport e) = transportNumber e
 numberOf (Container e) = containerNumber e
 numberOf (Identity p) = 18
 
+-- The layer of a fault; 18 is the transport's.
 abbrev pub layerOf : MessageFault → Layer
 layerOf (Transport e) = layer.Transport
 layerOf (Container e) = layer.Container
 layerOf (Identity p) = layer.Transport
 
+-- The place of a fault.
 abbrev pub placeOf : MessageFault → ℕ
 placeOf (Transport e) = transportPlace e
 placeOf (Container e) = containerPlace e

@@ -27,10 +27,11 @@ misbegun xs =
     (cond (wrongAt xs 2 (eqb (getD xs 2 0) 0x68)) (Some 2)
     (cond (wrongAt xs 3 (eqb (getD xs 3 0 % 16) 1)) (Some 3) None)))
 
--- The length that the octets 4 and 5 give, and where the container ends by it.
+-- The length that the octets 4 and 5 give.
 abbrev pub payloadLength : List ℕ → ℕ
 payloadLength xs = 256 * getD xs 4 0 + getD xs 5 0
 
+-- The place behind the container.
 abbrev pub payloadEnd : List ℕ → ℕ
 payloadEnd xs = 6 + payloadLength xs
 
@@ -55,12 +56,13 @@ begun xs None =
 abbrev pub outerOf : List ℕ → Result Found TransportFault
 outerOf xs = begun xs (misbegun xs)
 
--- The number and the place of a fault of the outer layer: 14, is the beginning as above? 15, is nothing cut short?
+-- The number of a fault of the outer layer: 14, is the beginning as above? 15, is nothing cut short?
 abbrev pub transportNumber : TransportFault → ℕ
 transportNumber (Element e) = elementNumber e
 transportNumber (Cut p) = 15
 transportNumber (Beginning p) = 14
 
+-- The place of a fault of the outer layer.
 abbrev pub transportPlace : TransportFault → ℕ
 transportPlace (Element e) = elementPlace e
 transportPlace (Cut p) = p

@@ -1,10 +1,10 @@
 // The payload container: a header, a fixed part by the type, and elements.
 ghost use mathlib.Core.Path.{_≡_};
-ghost use Prim.Native.Nat.{_+_, _^_, _<_, _≤_};
-ghost use lib.ListN.{length, drop};
+ghost use Prim.Native.Nat.{_+_, _^_, _<_};
+ghost use lib.ListN.{length};
 ghost use Rattle.std.specs.Results.{Cases};
 ghost use Rattle.dl_nas.specs.declared.container.ContainerFault.the-variants.{Element};
-ghost use Rattle.dl_nas.specs.Container.{formOf, fixedSize, fixedOf, contentOf, octetOf, containerOf, containerNumber, containerPlace};
+ghost use Rattle.dl_nas.specs.Container.{formOf, fixedOf, Passed, FixedCut, contentOf, octetOf, containerOf, containerNumber, containerPlace};
 use crate::content::Content;
 use crate::elements::ElementFault;
 use crate::elements::ElementFaultDebug;
@@ -163,40 +163,47 @@ struct Opened<'a> {
     rest: Payload<'a>,
 }
 
+// Passes the fixed part of C2: one octet, a block with a two-octet length, a block with a one-octet length.
+fn pass_blocks<'a>(part: Payload<'a>) -> Result<Payload<'a>, ContainerFault>
+    requires { ⌜ part .place + length (now (part .octets)) < 2 ^ 64 ⌝ }
+    ensures { λ r. ⌜ Cases r
+        (λ p. Passed Form.Accept (now (part .entry .octets)) (part .entry .place) (now (p .octets)) (p .place))
+        (λ e. FixedCut Form.Accept (now (part .entry .octets)) (part .entry .place) e) ⌝ }
+{
+    let Payload { octets, place } = part;
+    let end = place + octets.len();
+    let [_, high, low, after @ ..] = octets else {
+        return Err(ContainerFault::Cut(end));
+    };
+    let first = 256 * usize::from(*high) + usize::from(*low);
+    if first >= after.len() {
+        return Err(ContainerFault::Cut(end));
+    }
+    let size = 4 + first + usize::from(after[first]);
+    if size > octets.len() {
+        return Err(ContainerFault::Cut(end));
+    }
+    Ok(Payload {
+        octets: &octets[size..],
+        place: place + size,
+    })
+}
+
 // Reads the fixed part of a form.
 fn open_fixed<'a>(form: Form, part: Payload<'a>) -> Result<Opened<'a>, ContainerFault>
     requires { ⌜ part .place + length (now (part .octets)) < 2 ^ 64 ⌝ }
     ensures { λ r. ⌜ Cases r
         (λ o. (o .fixed ≡ fixedOf form (now (part .entry .octets)))
-        × (now (o .rest .octets) ≡ drop (fixedSize form (now (part .entry .octets))) (now (part .entry .octets)))
-        × (o .rest .place ≡ part .entry .place + fixedSize form (now (part .entry .octets)))
-        × (fixedSize form (now (part .entry .octets)) ≤ length (now (part .entry .octets))))
-        (λ e. (length (now (part .entry .octets)) < fixedSize form (now (part .entry .octets)))
-        × (e ≡ ContainerFault.Cut (part .entry .place + length (now (part .entry .octets))))) ⌝ }
+        × Passed form (now (part .entry .octets)) (part .entry .place) (now (o .rest .octets)) (o .rest .place))
+        (λ e. FixedCut form (now (part .entry .octets)) (part .entry .place) e) ⌝ }
 {
     let Payload { octets, place } = part;
     let end = place + octets.len();
     match form {
-        Form::Accept => {
-            let [_, high, low, after @ ..] = octets else {
-                return Err(ContainerFault::Cut(end));
-            };
-            let first = 256 * usize::from(*high) + usize::from(*low);
-            if first >= after.len() {
-                return Err(ContainerFault::Cut(end));
-            }
-            let size = 4 + first + usize::from(after[first]);
-            if size > octets.len() {
-                return Err(ContainerFault::Cut(end));
-            }
-            Ok(Opened {
-                fixed: Fixed::Accept,
-                rest: Payload {
-                    octets: &octets[size..],
-                    place: place + size,
-                },
-            })
-        }
+        Form::Accept => Ok(Opened {
+            fixed: Fixed::Accept,
+            rest: pass_blocks(part)?,
+        }),
         Form::Cause(caused) => {
             let [cause, after @ ..] = octets else {
                 return Err(ContainerFault::Cut(end));

@@ -1,12 +1,6 @@
 use borrow.Author.Needs.{needs}
-use Rattle.std.proofs.shelf.Lists.{take-rest, drop-all, places}
+use Rattle.std.proofs.shelf.Lists.{take-rest, drop-all}
 use Rattle.dl_nas.proofs.container.open_fixed.Needs as need
-
-pub returns-then-size-octets : need.returns-then-size-octets
-returns-then-size-octets c = search (needs, places)
-
-pub returns-else-size-octets : need.returns-else-size-octets
-returns-else-size-octets c = search (needs, places, take-rest)
 
 pub returns-in-len1-up : need.returns-in-len1-up
 returns-in-len1-up c = search (needs, take-rest)

@@ -34,7 +34,7 @@ returns-in-Break-found c =
     let first : getD xs 0 0 ≡ 0x2E = search needs in
     let o = c .in-Continue-opened .ensures tt in
     let h = header-whole xs _ (c .args .part .place) (c .in-Some .form) long first (take-rest xs 4) (sym (c .form-of .ensures) ∙ c .in-Some .is)
-    _ _ (Err (c .in-Break-found .field-0 .0)) (o .1) (o .2) (o .3) (c .in-Break-found .ensures tt) in
+    _ _ (Err (c .in-Break-found .field-0 .0)) (o .1 .0) (o .1 .1) (o .1 .2) (c .in-Break-found .ensures tt) in
     let q = p .1 in
     let r = p .2 in
     cc
@@ -46,7 +46,7 @@ returns c =
     let first : getD xs 0 0 ≡ 0x2E = search needs in
     let o = c .in-Continue-opened .ensures tt in
     let h = header-whole xs _ (c .args .part .place) (c .in-Some .form) long first (take-rest xs 4) (sym (c .form-of .ensures) ∙ c .in-Some .is)
-    _ _ (Ok (c .in-Continue-found .found)) (o .1) (o .2) (o .3) (c .in-Continue-found .ensures tt) in
+    _ _ (Ok (c .in-Continue-found .found)) (o .1 .0) (o .1 .1) (o .1 .2) (c .in-Continue-found .ensures tt) in
     let f = o .0 in
     let t = c .octet-of .ensures in
     let n = c .content-of .ensures in
