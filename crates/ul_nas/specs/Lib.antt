@@ -1,2 +1,4 @@
 pub mod Message
 pub mod Lawful
+pub mod Format
+pub mod Writing
