@@ -1,1 +1,3 @@
 pub mod Overs
+pub mod Fits
+pub mod Longest

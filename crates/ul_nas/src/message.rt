@@ -1,5 +1,6 @@
 // What an uplink message says, and which messages are lawful.
 ghost use mathlib.Core.Path.{_≡_};
+ghost use Prim.Native.Nat.{ℕ, _+_};
 ghost use Rattle.std.specs.Options.{mapped};
 ghost use Rattle.ul_nas.specs.declared.message.Content.the-variants.{EstablishmentRequest};
 ghost use Rattle.ul_nas.specs.Message.{carried, viewed, requestNumber, requestTypeOf, emergency, messageType};
@@ -24,6 +25,13 @@ impl RequestType {
             RequestType::InitialEmergency => 3,
             RequestType::ExistingEmergency => 4,
         }
+    }
+
+    // The octet 8T with the request type T.
+    pub(crate) fn octet(&self) -> u8
+        ensures { λ r. ⌜ r ≡ 0x80 + requestNumber (now (self .entry)) ⌝ }
+    {
+        0x80 | self.number()
     }
 
     pub fn from_number(number: u8) -> Option<RequestType>

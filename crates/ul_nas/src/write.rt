@@ -85,3 +85,87 @@ fn put_frame(out: &mut [u8], message: &UplinkMessage<'_>) -> usize
         _ => put(out, &[0x7E, 0x00, 0x67, 0x01, 0x00, 0x04, 0x2E, identity, pti, message.content.message_type(), 0x12, identity]),
     }
 }
+
+// Writes the elements of an establishment request: 8T with the request type T, the slice, the name.
+fn put_request(out: &mut [u8], request: Establishment<'_>) -> usize
+    requires room { ⌜ 1 + length (optional 0x22 (mapped now (request .slice))) + length (optional 0x25 (mapped now (request .name))) ≤ length (now out) ⌝ }
+    requires slice { ⌜ Fitting (mapped now (request .slice)) ⌝ }
+    requires name { ⌜ Fitting (mapped now (request .name)) ⌝ }
+    ensures after { λ r. ⌜ now (out .exit) ≡ over (elements (carried (EstablishmentRequest (request .entry)))) (now (out .entry)) ⌝ }
+    ensures count { λ r. ⌜ r ≡ length (elements (carried (EstablishmentRequest (request .entry)))) ⌝ }
+{
+    let mut at = put(out, &[request.request_type.octet()]);
+    at += put_optional(&mut out[at..], 0x22, request.slice);
+    at += put_optional(&mut out[at..], 0x25, request.name);
+    at
+}
+
+// Writes what follows the identity.
+fn put_elements(out: &mut [u8], content: Content<'_>) -> usize
+    requires room { ⌜ length (elements (carried content)) ≤ length (now out) ⌝ }
+    requires lawful { ⌜ lawfulElements (carried content) ≡ true ⌝ }
+    ensures after { λ r. ⌜ now (out .exit) ≡ over (elements (carried (content .entry))) (now (out .entry)) ⌝ }
+    ensures count { λ r. ⌜ r ≡ length (elements (carried (content .entry))) ⌝ }
+{
+    match content {
+        Content::EstablishmentRequest(request) => put_request(out, request),
+        _ => 0,
+    }
+}
+
+// How many octets the transport with the container has, up to the identity behind it.
+fn frame_length(message: &UplinkMessage<'_>) -> usize
+    ensures { λ r. ⌜ r ≡ length (frame (now (message .entry) .identity) (now (message .entry) .pti) (carried (now (message .entry) .content))) ⌝ }
+{
+    match message.content {
+        Content::EstablishmentRequest(_) => 14,
+        Content::Status => 13,
+        _ => 12,
+    }
+}
+
+// How many octets an element has, if it is present.
+fn optional_length(content: Option<&[u8]>) -> usize
+    requires { ⌜ Fitting (mapped now content) ⌝ }
+    ensures { λ r. ⌜ r ≡ length (optional 0 (mapped now (content .entry))) ⌝ }
+{
+    match content {
+        Some(content) => 2 + content.len(),
+        None => 0,
+    }
+}
+
+// How many octets follow the identity.
+fn elements_length(content: Content<'_>) -> usize
+    requires { ⌜ lawfulElements (carried content) ≡ true ⌝ }
+    ensures { λ r. ⌜ r ≡ length (elements (carried (content .entry))) ⌝ }
+{
+    match content {
+        Content::EstablishmentRequest(request) => 1 + optional_length(request.slice) + optional_length(request.name),
+        _ => 0,
+    }
+}
+
+// How many octets a lawful message is written in.
+fn encoded_length(message: &UplinkMessage<'_>) -> usize
+    requires { ⌜ lawful (viewed (now message)) ≡ true ⌝ }
+    ensures { λ r. ⌜ r ≡ length (encoding (viewed (now (message .entry)))) ⌝ }
+{
+    frame_length(message) + elements_length(message.content)
+}
+
+// Writes a message at the front of the buffer, and answers how many octets it has.
+// It refuses a message that is not lawful, then a buffer that is too short; the buffer is then as it was.
+pub fn write(message: &UplinkMessage<'_>, out: &mut [u8]) -> Result<usize, WriteRefusal>
+    ensures answer { λ r. ⌜ r ≡ writeAnswer (viewed (now (message .entry))) (length (now (out .entry))) ⌝ }
+    ensures buffer { λ r. ⌜ now (out .exit) ≡ bufferAfter r (viewed (now (message .entry))) (now (out .entry)) ⌝ }
+{
+    if !message.is_lawful() {
+        return Err(WriteRefusal::NotLawful);
+    }
+    if out.len() < encoded_length(message) {
+        return Err(WriteRefusal::Short);
+    }
+    let at = put_frame(out, message);
+    Ok(at + put_elements(&mut out[at..], message.content))
+}
