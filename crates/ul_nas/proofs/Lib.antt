@@ -1,3 +1,5 @@
 pub mod Overs
 pub mod Fits
 pub mod Longest
+pub mod Tails
+pub mod Told

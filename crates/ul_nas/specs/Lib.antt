@@ -2,3 +2,4 @@ pub mod Message
 pub mod Lawful
 pub mod Format
 pub mod Writing
+pub mod Reading
