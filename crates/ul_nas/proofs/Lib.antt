@@ -3,3 +3,6 @@ pub mod Fits
 pub mod Longest
 pub mod Tails
 pub mod Told
+pub mod Layouts
+pub mod Trips
+pub mod Exacts

@@ -31,4 +31,4 @@ optional-read id n xs long first size whole =
     let a = front-rest-rest 1 1 n xs in
     let b = rest-rest-rest 1 1 n xs in
     let e : Some (Some (take n (drop 2 xs)), drop (2 + n) xs) ≡ optionalOf id xs = grind (arith, tells) in
-    ap (λ l. Some (Some l, rest n (rest 1 (rest 1 xs)))) a ∙ ap (λ l. Some (Some (take n (drop 2 xs)), l)) b ∙ e
+    cc

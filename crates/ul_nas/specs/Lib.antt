@@ -3,3 +3,4 @@ pub mod Lawful
 pub mod Format
 pub mod Writing
 pub mod Reading
+pub mod Laws

@@ -5,6 +5,7 @@ ghost use Rattle.std.specs.Options.{mapped};
 ghost use Rattle.std.specs.declared.option.Option.the-variants.{Some, None};
 ghost use Rattle.ul_nas.specs.Message.{carried, viewed};
 ghost use Rattle.ul_nas.specs.Reading.{optionalOf, elementsOf, typeOctetOf, establishmentOf, headerOnlyOf, carriedOf, told, shown, readRefusalNumber};
+ghost use Rattle.ul_nas.specs.Laws.{ReadExactly, Exact};
 
 use crate::message::Content;
 use crate::message::Establishment;
@@ -133,7 +134,9 @@ fn read_message(octets: &[u8]) -> Option<UplinkMessage<'_>>
 
 // Reads a message back, or refuses with 19 octets that are not a lawful message in its written form.
 pub fn read(octets: &[u8]) -> Result<UplinkMessage<'_>, NotWrittenForm>
-    ensures { λ r. ⌜ shown r ≡ told (now (octets .entry)) ⌝ }
+    ensures answer { λ r. ⌜ shown r ≡ told (now (octets .entry)) ⌝ }
+    ensures exact { λ r. ⌜ ReadExactly (now (octets .entry)) r ⌝ }
+    ensures law { λ _. ⌜ Exact ⌝ }
 {
     match read_message(octets) {
         Some(message) => Ok(message),
