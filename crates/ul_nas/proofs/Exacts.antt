@@ -48,7 +48,7 @@ five xs h =
     cc
 
 ten : (xs : List ℕ) → 10 ≤ length xs
-  → xs ≡ getD xs 0 0 ∷ (getD xs 1 0 ∷ (getD xs 2 0 ∷ (getD xs 3 0 ∷ (getD xs 4 0 ∷ (getD xs 5 0 ∷ (getD xs 6 0 ∷ (getD xs 7 0 ∷ (getD xs 8 0 ∷ (getD xs 9 0 ∷ drop 10 xs)))))))))
+    → xs ≡ getD xs 0 0 ∷ (getD xs 1 0 ∷ (getD xs 2 0 ∷ (getD xs 3 0 ∷ (getD xs 4 0 ∷ (getD xs 5 0 ∷ (getD xs 6 0 ∷ (getD xs 7 0 ∷ (getD xs 8 0 ∷ (getD xs 9 0 ∷ drop 10 xs)))))))))
 ten xs h =
     let front = five xs (omega arith) in
     let a = drop-more xs 5 0 (omega arith) in
@@ -64,13 +64,13 @@ same-parts a b xs ys e = let p : _≡_ {A = Option (List ℕ) × List ℕ} (a, x
 exact-optional : (id : ℕ) (xs zs : List ℕ) (s : Option (List ℕ)) → optionalOf id xs ≡ Some (s, zs) → xs ≡ optional id s ++ zs
 exact-optional id xs zs s =
     cond-both (ltb 0 (length xs) && eqb (getD xs 0 0) id) _ _ (λ o. o ≡ Some (s, zs) → xs ≡ optional id s ++ zs)
-      (λ first. cond-both (leb 2 (length xs) && leb (2 + getD xs 1 0) (length xs)) _ _ (λ o. o ≡ Some (s, zs) → xs ≡ optional id s ++ zs)
-        (λ whole e. present first whole (same-parts _ s _ zs e))
-        (λ _ e. absurd (grind arith)))
-      (λ _ e. let p = same-parts None s xs zs e in p .1 ∙ ap (λ o. optional id o ++ zs) (p .0))
+    (λ first. cond-both (leb 2 (length xs) && leb (2 + getD xs 1 0) (length xs)) _ _ (λ o. o ≡ Some (s, zs) → xs ≡ optional id s ++ zs)
+    (λ whole e. present first whole (same-parts _ s _ zs e))
+    (λ _ e. absurd (grind arith)))
+    (λ _ e. let p = same-parts None s xs zs e in p .1 ∙ ap (λ o. optional id o ++ zs) (p .0))
   where
     present : ltb 0 (length xs) && eqb (getD xs 0 0) id ≡ true → leb 2 (length xs) && leb (2 + getD xs 1 0) (length xs) ≡ true
-      → (Some (take (getD xs 1 0) (drop 2 xs)) ≡ s) × (drop (2 + getD xs 1 0) xs ≡ zs) → xs ≡ optional id s ++ zs
+        → (Some (take (getD xs 1 0) (drop 2 xs)) ≡ s) × (drop (2 + getD xs 1 0) xs ≡ zs) → xs ≡ optional id s ++ zs
     present first whole p =
         let is : getD xs 0 0 ≡ id = grind (arith, tells) in
         let long : 2 + getD xs 1 0 ≤ length xs = grind (arith, tells) in
@@ -89,19 +89,21 @@ pub record Requested (t : RequestType) (zs : List ℕ) (c : Carried) : Type 0 wh
   pub same : establishment-request t slice name ≡ c
 
 exact-named : (t : RequestType) (s : Option (List ℕ)) (xs zs : List ℕ) (c : Carried) (o : Option (Option (List ℕ) × List ℕ))
-  → xs ≡ optional 0x22 s ++ zs → optionalOf 0x25 zs ≡ o → namedOf t s o ≡ Some c → Requested t xs c
+    → xs ≡ optional 0x22 s ++ zs → optionalOf 0x25 zs ≡ o → namedOf t s o ≡ Some c → Requested t xs c
 exact-named t s xs zs c None front q e = absurd (grind arith)
 exact-named t s xs zs c (Some (n, us)) front q e′ =
     cond-both (eqb (length us) 0) _ _ (λ r. r ≡ Some c → Requested t xs c)
-      (λ none e. record {
-        slice = s; name = n;
-        written = front ∙ ap (λ l. optional 0x22 s ++ l) (exact-optional 0x25 zs us n q ∙ ap (λ l. optional 0x25 n ++ l) (nil-from-length us (eqb-true (length us) 0 none)) ∙ append-nil (optional 0x25 n));
-        same = cc })
-      (λ _ e. absurd (grind arith))
-      e′
+    (λ none e. record {
+      slice = s;
+      name = n;
+      written = front ∙ ap (λ l. optional 0x22 s ++ l) (exact-optional 0x25 zs us n q ∙ ap (λ l. optional 0x25 n ++ l) (nil-from-length us (eqb-true (length us) 0 none)) ∙ append-nil (optional 0x25 n));
+      same = cc;
+    })
+    (λ _ e. absurd (grind arith))
+    e′
 
 exact-sliced : (t : RequestType) (xs : List ℕ) (c : Carried) (o : Option (Option (List ℕ) × List ℕ))
-  → optionalOf 0x22 xs ≡ o → slicedOf t o ≡ Some c → Requested t xs c
+    → optionalOf 0x22 xs ≡ o → slicedOf t o ≡ Some c → Requested t xs c
 exact-sliced t xs c None q e = absurd (grind arith)
 exact-sliced t xs c (Some (s, zs)) q e = exact-named t s xs zs c (optionalOf 0x25 zs) (exact-optional 0x22 xs zs s q) refl e
 
@@ -152,6 +154,7 @@ exact-header-only i octet ys c h e = ended c e
         let front = two ys (omega arith) in
         let none = nil-from-length (drop 2 ys) (omega (arith, length-drop 2 ys)) in
         cc
+
     ended : (c : Carried) → headerOnlyOf octet ≡ Some c → Form i octet 4 ys c
     ended (establishment-request t s n) e = absurd (grind (arith, tells))
     ended modification-request e = record { type-is = grind (arith, tells); size-is = refl; written = written }
@@ -163,25 +166,26 @@ exact-header-only i octet ys c h e = ended c e
 exact-carried : (i octet size : ℕ) (ys : List ℕ) (c : Carried) → carriedOf i octet size ys ≡ Some c → Form i octet size ys c
 exact-carried i octet size ys c =
     cond-both (eqb octet 0xC1 && eqb size 6) _ _ Told
-      (λ h e. sized 0xC1 6 h (exact-establishment i ys c e))
-      (λ _. cond-both (eqb octet 0xD6 && eqb size 5) _ _ Told
-        (λ h. cond-both (reporting i ys) _ _ Told
-          (λ r e. sized 0xD6 5 h (subst (λ x. Form i 0xD6 5 ys x) (cc) (exact-status i ys r)))
-          (λ _ e. absurd (grind arith)))
-        (λ _. cond-both (eqb size 4 && ending i ys) _ _ Told
-          (λ h e. let four = and-parts (eqb size 4) (ending i ys) h in
-            subst (λ k. Form i octet k ys c) (sym (eqb-true size 4 (four .0))) (exact-header-only i octet ys c (four .1) e))
-          (λ _ e. absurd (grind arith))))
+    (λ h e. sized 0xC1 6 h (exact-establishment i ys c e))
+    (λ _. cond-both (eqb octet 0xD6 && eqb size 5) _ _ Told
+    (λ h. cond-both (reporting i ys) _ _ Told
+    (λ r e. sized 0xD6 5 h (subst (λ x. Form i 0xD6 5 ys x) (cc) (exact-status i ys r)))
+    (λ _ e. absurd (grind arith)))
+    (λ _. cond-both (eqb size 4 && ending i ys) _ _ Told
+    (λ h e. let four = and-parts (eqb size 4) (ending i ys) h in
+    subst (λ k. Form i octet k ys c) (sym (eqb-true size 4 (four .0))) (exact-header-only i octet ys c (four .1) e))
+    (λ _ e. absurd (grind arith))))
   where
     Told : Option Carried → Type 0
     Told o = o ≡ Some c → Form i octet size ys c
+
     sized : (t k : ℕ) → (eqb octet t && eqb size k) ≡ true → Form i t k ys c → Form i octet size ys c
     sized t k h f =
         let both = and-parts (eqb octet t) (eqb size k) h in
         subst (λ x. Form i x size ys c) (sym (eqb-true octet t (both .0))) (subst (λ x. Form i t x ys c) (sym (eqb-true size k (both .1))) f)
 
 whole : (xs : List ℕ) (c : Carried) → opening xs ≡ true → Form (getD xs 7 0) (getD xs 9 0) (getD xs 5 0) (drop 10 xs) c
-  → xs ≡ encoding (message (getD xs 7 0) (getD xs 8 0) c)
+    → xs ≡ encoding (message (getD xs 7 0) (getD xs 8 0) c)
 whole xs c h f =
     let long : 10 ≤ length xs = grind (arith, tells) in
     let a : getD xs 0 0 ≡ 0x7E = grind (arith, tells) in
@@ -198,18 +202,18 @@ exact-judged : (i p : ℕ) (m : Message) (o : Option Carried) → judged i p o �
 exact-judged i p m None e = absurd (grind arith)
 exact-judged i p m (Some c) e′ =
     cond-both (lawful (message i p c)) _ _ (λ o. o ≡ Some m → (d : Carried) × ((Some c ≡ Some d) × ((lawful m ≡ true) × (message i p d ≡ m))))
-      (λ h e. let same : message i p c ≡ m = cc in (c, (refl, (sym (ap lawful same) ∙ h, same))))
-      (λ _ e. absurd (grind arith))
-      e′
+    (λ h e. let same : message i p c ≡ m = cc in (c, (refl, (sym (ap lawful same) ∙ h, same))))
+    (λ _ e. absurd (grind arith))
+    e′
 
 pub exact : Exact
 exact xs m =
     cond-both (opening xs) _ _ (λ o. o ≡ Some m → (lawful m ≡ true) × (xs ≡ encoding m))
-      (λ h e.
-        let j = exact-judged (getD xs 7 0) (getD xs 8 0) m _ e in
-        let f = exact-carried (getD xs 7 0) (getD xs 9 0) (getD xs 5 0) (drop 10 xs) (j .0) (j .1 .0) in
-        (j .1 .1 .0, whole xs (j .0) h f ∙ ap encoding (j .1 .1 .1)))
-      (λ _ e. absurd (grind arith))
+    (λ h e.
+    let j = exact-judged (getD xs 7 0) (getD xs 8 0) m _ e in
+    let f = exact-carried (getD xs 7 0) (getD xs 9 0) (getD xs 5 0) (drop 10 xs) (j .0) (j .1 .0) in
+    (j .1 .1 .0, whole xs (j .0) h f ∙ ap encoding (j .1 .1 .1)))
+    (λ _ e. absurd (grind arith))
 
 pub read-exactly : (xs : List ℕ) (r : Result UplinkMessage NotWrittenForm) → shown r ≡ told xs → ReadExactly xs r
 read-exactly xs (Ok m) e = exact xs (viewed m) (sym e)

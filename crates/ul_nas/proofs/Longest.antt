@@ -54,6 +54,6 @@ longest (message i p c) h =
     omega (arith, length-append (frame i p c) (elements c), frame-short i p c, elements-short c (lawful-elements i p c h))
 
 pub accepted : (m : Message) (room n : ℕ) → lawful m ≡ true → length (encoding m) ≤ room → n ≡ length (encoding m)
-  → _≡_ {A = Result ℕ WriteRefusal} (Ok n) (writeAnswer m room)
+    → _≡_ {A = Result ℕ WriteRefusal} (Ok n) (writeAnswer m room)
 accepted m room n h fits e =
     ap (λ k. Ok k) e ∙ sym (cond-true (lawful m) _ _ h ∙ cond-true (leb (length (encoding m)) room) _ _ (le-leb (length (encoding m)) room fits))

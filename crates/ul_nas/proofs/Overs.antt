@@ -19,7 +19,7 @@ length-over code before h = length-append code (drop (length code) before) ∙ g
 
 -- `xs` is the buffer after `pre`, and `ys` its tail from `at` after `code` was written there
 pub over-more : (pre code before xs ys : List ℕ) (at k : ℕ) → at ≡ length pre → xs ≡ over pre before
-  → k ≡ length xs - at → ys ≡ over code (take (length xs - at) (drop at xs)) → putMid at k xs ys ≡ over (pre ++ code) before
+    → k ≡ length xs - at → ys ≡ over code (take (length xs - at) (drop at xs)) → putMid at k xs ys ≡ over (pre ++ code) before
 over-more pre code before xs ys at k at-is xs-is k-is ys-is =
     let D = drop (length pre) before in
     let front : take at xs ≡ pre = ap (λ l. take at l) xs-is ∙ take-at pre D at (sym at-is) in

@@ -26,7 +26,7 @@ front-rest-rest a b n xs = ap (λ k. take k (rest b (rest a xs))) same ∙ ap (�
     same = omega arith
 
 pub optional-read : (id n : ℕ) (xs : List ℕ) → 2 ≤ length xs → getD xs 0 0 ≡ id → n ≡ getD xs 1 0 → 2 + n ≤ length xs
-  → Some (Some (take (n - 0) (rest 1 (rest 1 xs))), rest n (rest 1 (rest 1 xs))) ≡ optionalOf id xs
+    → Some (Some (take (n - 0) (rest 1 (rest 1 xs))), rest n (rest 1 (rest 1 xs))) ≡ optionalOf id xs
 optional-read id n xs long first size whole =
     let a = front-rest-rest 1 1 n xs in
     let b = rest-rest-rest 1 1 n xs in

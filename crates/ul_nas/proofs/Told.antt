@@ -13,7 +13,7 @@ use Rattle.ul_nas.specs.Lawful.{lawful}
 use Rattle.ul_nas.specs.Reading.{elementsOf, typeOctetOf, establishing, establishmentOf, carriedOf, judged, opening, told}
 
 pub established : (i : ℕ) (ys zs : List ℕ) (t : RequestType) (r : Option Carried)
-  → establishing i ys ≡ true → zs ≡ drop 5 ys → Some t ≡ typeOctetOf (getD ys 4 0) → r ≡ elementsOf (Some t) zs → r ≡ establishmentOf i ys
+    → establishing i ys ≡ true → zs ≡ drop 5 ys → Some t ≡ typeOctetOf (getD ys 4 0) → r ≡ elementsOf (Some t) zs → r ≡ establishmentOf i ys
 established i ys zs t r fits tail type-is e =
     e ∙ ap (λ o. elementsOf o zs) type-is ∙ ap (λ l. elementsOf (typeOctetOf (getD ys 4 0)) l) tail ∙ sym (cond-true (establishing i ys) _ _ fits)
 
@@ -21,7 +21,7 @@ pub not-opened : (xs : List ℕ) → opening xs ≡ false → None ≡ told xs
 not-opened xs e = sym (cond-false (opening xs) _ _ e)
 
 pub opened : (xs ys : List ℕ) (o : Option Carried) → opening xs ≡ true → ys ≡ drop 10 xs
-  → o ≡ carriedOf (getD xs 7 0) (getD xs 9 0) (getD xs 5 0) ys → judged (getD xs 7 0) (getD xs 8 0) o ≡ told xs
+    → o ≡ carriedOf (getD xs 7 0) (getD xs 9 0) (getD xs 5 0) ys → judged (getD xs 7 0) (getD xs 8 0) o ≡ told xs
 opened xs ys o fits tail e =
     ap (λ q. judged (getD xs 7 0) (getD xs 8 0) q) (e ∙ ap (λ l. carriedOf (getD xs 7 0) (getD xs 9 0) (getD xs 5 0) l) tail)
     ∙ sym (cond-true (opening xs) _ _ fits)

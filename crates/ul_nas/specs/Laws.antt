@@ -3,12 +3,13 @@ use mathlib.Core.Path.{_≡_}
 use mathlib.Core.List.{List}
 use mathlib.Core.Bool.{true}
 use Prim.Native.Nat.{ℕ, _≤_}
-use lib.ListN.{length}
+use lib.ListN.{length, take}
 use Rattle.std.specs.declared.option.Option.the-variants.{Some, None}
 use Rattle.std.specs.declared.result.Result.{Result}
 use Rattle.std.specs.declared.result.Result.the-variants.{Ok, Err}
 use Rattle.ul_nas.specs.declared.message.UplinkMessage.{UplinkMessage}
 use Rattle.ul_nas.specs.declared.read.NotWrittenForm.{NotWrittenForm}
+use Rattle.ul_nas.specs.declared.write.WriteRefusal.{WriteRefusal}
 use Rattle.ul_nas.specs.Message.{Message, viewed}
 use Rattle.ul_nas.specs.Lawful.{lawful}
 use Rattle.ul_nas.specs.Format.{encoding}
@@ -31,3 +32,8 @@ ReadExactly xs (Err e) = (m : Message) → lawful m ≡ true → xs ≡ encoding
 -- no lawful message has more octets than this
 abbrev pub LongestIs : ℕ → Type 0
 LongestIs n = (m : Message) → lawful m ≡ true → length (encoding m) ≤ n
+
+-- what was written at the front of the buffer tells the message, and is no longer than the longest one
+abbrev pub ReadsBack : Result ℕ WriteRefusal → Message → List ℕ → Type 0
+ReadsBack (Ok n) m after = (told (take n after) ≡ Some m) × (n ≤ 127)
+ReadsBack (Err e) m after = Unit {0}

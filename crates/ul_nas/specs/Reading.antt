@@ -19,7 +19,7 @@ abbrev pub optionalOf : ℕ → List ℕ → Option (Option (List ℕ) × List �
 optionalOf identifier xs =
     cond (ltb 0 (length xs) && eqb (getD xs 0 0) identifier)
     (cond (leb 2 (length xs) && leb (2 + getD xs 1 0) (length xs))
-      (Some (Some (take (getD xs 1 0) (drop 2 xs)), drop (2 + getD xs 1 0) xs)) None)
+    (Some (Some (take (getD xs 1 0) (drop 2 xs)), drop (2 + getD xs 1 0) xs)) None)
     (Some (None, xs))
 
 -- nothing follows the name

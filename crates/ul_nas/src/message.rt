@@ -122,7 +122,11 @@ fn name_is_lawful(name: Option<&[u8]>) -> bool
 fn elements_are_lawful(establishment: Establishment<'_>) -> bool
     ensures { λ r. ⌜ r ≡ lawfulElements (carried (EstablishmentRequest (establishment .entry))) ⌝ }
 {
-    let Establishment { request_type, slice, name } = establishment;
+    let Establishment {
+        request_type,
+        slice,
+        name,
+    } = establishment;
     if request_type.is_emergency() {
         slice.is_none() && name.is_none()
     } else {
@@ -135,7 +139,8 @@ fn pti_is_lawful(content: &Content<'_>, pti: u8) -> bool
     ensures { λ r. ⌜ r ≡ lawfulPti (carried (now (content .entry))) pti ⌝ }
 {
     match *content {
-        Content::EstablishmentRequest(_) | Content::ModificationRequest | Content::ReleaseRequest => matches!(pti, 1..=254),
+        Content::EstablishmentRequest(_) | Content::ModificationRequest | Content::ReleaseRequest =>
+            matches!(pti, 1..=254),
         Content::ModificationComplete | Content::ReleaseComplete => pti <= 254,
         Content::Status => true,
     }
@@ -148,7 +153,8 @@ impl<'a> UplinkMessage<'a> {
     {
         let in_range = matches!(self.identity, 1..=15) && pti_is_lawful(&self.content, self.pti);
         match self.content {
-            Content::EstablishmentRequest(establishment) => in_range && elements_are_lawful(establishment),
+            Content::EstablishmentRequest(establishment) => in_range
+                && elements_are_lawful(establishment),
             _ => in_range,
         }
     }

@@ -6,7 +6,6 @@ ghost use Rattle.std.specs.declared.option.Option.the-variants.{Some, None};
 ghost use Rattle.ul_nas.specs.Message.{carried, viewed};
 ghost use Rattle.ul_nas.specs.Reading.{optionalOf, elementsOf, typeOctetOf, establishmentOf, headerOnlyOf, carriedOf, told, shown, readRefusalNumber};
 ghost use Rattle.ul_nas.specs.Laws.{ReadExactly, Exact};
-
 use crate::message::Content;
 use crate::message::Establishment;
 use crate::message::RequestType;
@@ -44,9 +43,15 @@ fn read_optional(identifier: u8, octets: &[u8]) -> Option<Part<'_>>
             if size > after.len() {
                 return None;
             }
-            Some(Part { content: Some(&after[0..size]), rest: &after[size..] })
+            Some(Part {
+                content: Some(&after[0..size]),
+                rest: &after[size..],
+            })
         }
-        _ => Some(Part { content: None, rest: octets }),
+        _ => Some(Part {
+            content: None,
+            rest: octets,
+        }),
     }
 }
 
@@ -59,7 +64,11 @@ fn read_elements(request_type: RequestType, octets: &[u8]) -> Option<Content<'_>
     if !name.rest.is_empty() {
         return None;
     }
-    Some(Content::EstablishmentRequest(Establishment { request_type, slice: slice.content, name: name.content }))
+    Some(Content::EstablishmentRequest(Establishment {
+        request_type,
+        slice: slice.content,
+        name: name.content,
+    }))
 }
 
 // The octet 8T with the request type T.
@@ -121,11 +130,28 @@ fn read_content(identity: u8, octet: u8, size: u8, after: &[u8]) -> Option<Conte
 fn read_message(octets: &[u8]) -> Option<UplinkMessage<'_>>
     ensures { λ r. ⌜ mapped viewed r ≡ told (now (octets .entry)) ⌝ }
 {
-    let [0x7E, 0x00, 0x67, 0x01, 0x00, size, 0x2E, identity, pti, octet, after @ ..] = octets else {
+    let [
+        0x7E,
+        0x00,
+        0x67,
+        0x01,
+        0x00,
+        size,
+        0x2E,
+        identity,
+        pti,
+        octet,
+        after @ ..,
+    ] = octets
+    else {
         return None;
     };
     let content = read_content(*identity, *octet, *size, after)?;
-    let message = UplinkMessage { identity: *identity, pti: *pti, content };
+    let message = UplinkMessage {
+        identity: *identity,
+        pti: *pti,
+        content,
+    };
     if !message.is_lawful() {
         return None;
     }

@@ -9,7 +9,7 @@ ghost use Rattle.ul_nas.specs.Message.{carried, viewed};
 ghost use Rattle.ul_nas.specs.Lawful.{lawful, lawfulElements};
 ghost use Rattle.ul_nas.specs.Format.{frame, element, optional, elements, encoding};
 ghost use Rattle.ul_nas.specs.Writing.{over, Fitting, writeAnswer, bufferAfter, refusalNumber};
-
+ghost use Rattle.ul_nas.specs.Laws.{Round-trip, ReadsBack};
 use crate::message::Content;
 use crate::message::Establishment;
 use crate::message::UplinkMessage;
@@ -79,10 +79,61 @@ fn put_frame(out: &mut [u8], message: &UplinkMessage<'_>) -> usize
     let pti = message.pti;
     match message.content {
         Content::EstablishmentRequest(_) => {
-            put(out, &[0x7E, 0x00, 0x67, 0x01, 0x00, 0x06, 0x2E, identity, pti, 0xC1, 0xFF, 0xFF, 0x12, identity])
+            put(
+                out,
+                &[
+                    0x7E,
+                    0x00,
+                    0x67,
+                    0x01,
+                    0x00,
+                    0x06,
+                    0x2E,
+                    identity,
+                    pti,
+                    0xC1,
+                    0xFF,
+                    0xFF,
+                    0x12,
+                    identity,
+                ],
+            )
         }
-        Content::Status => put(out, &[0x7E, 0x00, 0x67, 0x01, 0x00, 0x05, 0x2E, identity, pti, 0xD6, 0x2B, 0x12, identity]),
-        _ => put(out, &[0x7E, 0x00, 0x67, 0x01, 0x00, 0x04, 0x2E, identity, pti, message.content.message_type(), 0x12, identity]),
+        Content::Status => put(
+            out,
+            &[
+                0x7E,
+                0x00,
+                0x67,
+                0x01,
+                0x00,
+                0x05,
+                0x2E,
+                identity,
+                pti,
+                0xD6,
+                0x2B,
+                0x12,
+                identity,
+            ],
+        ),
+        _ => put(
+            out,
+            &[
+                0x7E,
+                0x00,
+                0x67,
+                0x01,
+                0x00,
+                0x04,
+                0x2E,
+                identity,
+                pti,
+                message.content.message_type(),
+                0x12,
+                identity,
+            ],
+        ),
     }
 }
 
@@ -141,7 +192,9 @@ fn elements_length(content: Content<'_>) -> usize
     ensures { λ r. ⌜ r ≡ length (elements (carried (content .entry))) ⌝ }
 {
     match content {
-        Content::EstablishmentRequest(request) => 1 + optional_length(request.slice) + optional_length(request.name),
+        Content::EstablishmentRequest(request) => 1
+            + optional_length(request.slice)
+            + optional_length(request.name),
         _ => 0,
     }
 }
@@ -154,9 +207,8 @@ fn encoded_length(message: &UplinkMessage<'_>) -> usize
     frame_length(message) + elements_length(message.content)
 }
 
-// Writes a message at the front of the buffer, and answers how many octets it has.
-// It refuses a message that is not lawful, then a buffer that is too short; the buffer is then as it was.
-pub fn write(message: &UplinkMessage<'_>, out: &mut [u8]) -> Result<usize, WriteRefusal>
+// Writes a message: one that is not lawful is refused first, then a buffer that is too short.
+fn write_message(message: &UplinkMessage<'_>, out: &mut [u8]) -> Result<usize, WriteRefusal>
     ensures answer { λ r. ⌜ r ≡ writeAnswer (viewed (now (message .entry))) (length (now (out .entry))) ⌝ }
     ensures buffer { λ r. ⌜ now (out .exit) ≡ bufferAfter r (viewed (now (message .entry))) (now (out .entry)) ⌝ }
 {
@@ -168,4 +220,16 @@ pub fn write(message: &UplinkMessage<'_>, out: &mut [u8]) -> Result<usize, Write
     }
     let at = put_frame(out, message);
     Ok(at + put_elements(&mut out[at..], message.content))
+}
+
+// Writes a message at the front of the buffer, and answers how many octets it has; the octets behind it stay.
+// It refuses a message that is not lawful, then a buffer that is too short; the buffer is then as it was.
+// What is written is read back as the message.
+pub fn write(message: &UplinkMessage<'_>, out: &mut [u8]) -> Result<usize, WriteRefusal>
+    ensures answer { λ r. ⌜ r ≡ writeAnswer (viewed (now (message .entry))) (length (now (out .entry))) ⌝ }
+    ensures buffer { λ r. ⌜ now (out .exit) ≡ bufferAfter r (viewed (now (message .entry))) (now (out .entry)) ⌝ }
+    ensures back { λ r. ⌜ ReadsBack r (viewed (now (message .entry))) (now (out .exit)) ⌝ }
+    ensures law { λ _. ⌜ Round-trip ⌝ }
+{
+    write_message(message, out)
 }

@@ -10,7 +10,7 @@ returns-in-rest c = not-opened (c .args .octets .now) (search needs)
 pub returns-in-Break-content : need.returns-in-Break-content
 returns-in-Break-content c =
     rw (c .from-residual .ensures)
-      (opened (c .args .octets .now) _ None (search needs) (take-rest (c .args .octets .now) 10) (c .in-Break-content .ensures tt))
+    (opened (c .args .octets .now) _ None (search needs) (take-rest (c .args .octets .now) 10) (c .in-Break-content .ensures tt))
 
 pub returns-then-not-is-lawful : need.returns-then-not-is-lawful
 returns-then-not-is-lawful c =

@@ -8,4 +8,4 @@ use Rattle.ul_nas.proofs.read.read_optional.Needs as need
 pub returns-else-size-after : need.returns-else-size-after
 returns-else-size-after c =
     optional-read (c .args .identifier) (c .from-size .result) (c .args .octets .now)
-      (search (needs, places)) (search needs) (search (needs, places)) (search (needs, rest-rest, places))
+    (search (needs, places)) (search needs) (search (needs, places)) (search (needs, rest-rest, places))

@@ -11,4 +11,4 @@ returns-in-EstablishmentRequest c =
     let s = mapped now (c .in-EstablishmentRequest .request .slice) in
     let n = mapped now (c .in-EstablishmentRequest .request .name) in
     rw (c .in-EstablishmentRequest .is)
-      (omega (arith, length-append (optional 0x22 s) (optional 0x25 n), optional-size 0x22 0 s, optional-size 0x25 0 n))
+    (omega (arith, length-append (optional 0x22 s) (optional 0x25 n), optional-size 0x22 0 s, optional-size 0x25 0 n))

@@ -7,7 +7,8 @@ use Rattle.ul_nas.proofs.write.put_element.Needs as need
 
 pub returns : need.returns
 returns c = record {
-    after = over-more (c .args .identifier ∷ (length (c .args .content .now) ∷ [])) (c .args .content .now) (c .args .out .now)
+  after = over-more (c .args .identifier ∷ (length (c .args .content .now) ∷ [])) (c .args .content .now) (c .args .out .now)
       (c .put-at .last .out) (c .put .last .out) (c .put-at .result) _
       (c .put-at .ensures .count) (c .put-at .ensures .after) refl (c .put .ensures .after);
-    count = search needs }
+  count = search needs;
+}

@@ -20,10 +20,11 @@ returns c =
     let S = optional 0x22 (mapped now (c .args .request .slice)) in
     let N = optional 0x25 (mapped now (c .args .request .name)) in
     let a = over-more T S out (c .put-at .last .out) (c .put-optional-at .last .out) (c .put-at .result) _
-              (c .put-at .ensures .count) (c .put-at .ensures .after) refl (c .put-optional-at .ensures .after) in
+    (c .put-at .ensures .count) (c .put-at .ensures .after) refl (c .put-optional-at .ensures .after) in
     let at : c .put-at .result + c .put-optional-at .result ≡ length (T ++ S) = omega (arith, length-append T S) in
     let b = over-more (T ++ S) N out _ (c .put-optional-at-2 .last .out) (c .put-at .result + c .put-optional-at .result) _
-              at a refl (c .put-optional-at-2 .ensures .after) in
+    at a refl (c .put-optional-at-2 .ensures .after) in
     record {
       after = b ∙ ap (λ l. over l out) (append-assoc T S N ∙ ap (λ t. t ∷ (S ++ N)) (c .octet .ensures));
-      count = omega (arith, length-append S N) }
+      count = omega (arith, length-append S N);
+    }
