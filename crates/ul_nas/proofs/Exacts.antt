@@ -1,8 +1,8 @@
 -- 19 is exact: octets that tell a message are its written form.
 use mathlib.Core.Path.{_≡_, refl, sym, ap, _∙_, subst}
 use mathlib.Core.List.{List, [], _∷_, _++_}
-use mathlib.Core.Bool.{Bool, true, false, cond, _&&_}
-use Prim.Native.Nat.{ℕ, suc, _+_, _-_, _≤_, _<_}
+use mathlib.Core.Bool.{true, _&&_}
+use Prim.Native.Nat.{ℕ, _+_, _-_, _≤_}
 use native.Mathlib.Omega.{arith}
 use lib.Dec.{eqb, ltb, leb}
 use lib.ListN.{length, drop, take, getD}
@@ -11,7 +11,7 @@ use Rattle.std.specs.declared.option.Option.the-variants.{Some, None}
 use Rattle.std.specs.declared.result.Result.{Result}
 use Rattle.std.specs.declared.result.Result.the-variants.{Ok, Err}
 use Rattle.std.proofs.shelf.Lists.{append-nil, take-append-drop, drop-drop, drop-more, length-take-le, length-drop, nil-from-length}
-use Rattle.std.proofs.shelf.Tests.{cond-both, and-parts, eqb-true, leb-true}
+use Rattle.std.proofs.shelf.Tests.{cond-both, and-parts, eqb-true}
 use Rattle.std.proofs.shelf.Ways.{tells}
 use Rattle.ul_nas.specs.declared.message.RequestType.{RequestType}
 use Rattle.ul_nas.specs.declared.message.RequestType.the-variants.{Initial, Existing, InitialEmergency, ExistingEmergency}

@@ -1,7 +1,7 @@
 -- How long a lawful message can be.
 use mathlib.Core.Path.{_≡_, sym, ap, _∙_}
 use mathlib.Core.List.{List}
-use mathlib.Core.Bool.{true, cond, _&&_}
+use mathlib.Core.Bool.{true, _&&_}
 use Prim.Native.Nat.{ℕ, _≤_}
 use native.Mathlib.Omega.{arith}
 use lib.Dec.{leb}
@@ -9,12 +9,11 @@ use lib.ListN.{length}
 use Rattle.std.specs.declared.option.Option.{Option}
 use Rattle.std.specs.declared.option.Option.the-variants.{Some, None}
 use Rattle.std.specs.declared.result.Result.{Result}
-use Rattle.std.specs.declared.result.Result.the-variants.{Ok, Err}
+use Rattle.std.specs.declared.result.Result.the-variants.{Ok}
 use Rattle.std.proofs.shelf.Lists.{length-append}
 use Rattle.std.proofs.shelf.Tests.{and-parts, cond-true, le-leb}
 use Rattle.std.proofs.shelf.Ways.{tells}
 use Rattle.ul_nas.specs.declared.write.WriteRefusal.{WriteRefusal}
-use Rattle.ul_nas.specs.declared.write.WriteRefusal.the-variants.{NotLawful, Short}
 use Rattle.ul_nas.specs.Message.{Carried, establishment-request, modification-request, release-request, modification-complete, release-complete, status, Message, message}
 use Rattle.ul_nas.specs.Lawful.{lawfulSlice, lawfulName, lawfulElements, lawfulPti, lawful}
 use Rattle.ul_nas.specs.Format.{frame, optional, elements, encoding}

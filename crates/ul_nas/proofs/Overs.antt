@@ -1,7 +1,7 @@
 -- One write after another: the front of the buffer grows, and the rest is as it was.
 use mathlib.Core.Path.{_≡_, refl, sym, ap, _∙_}
-use mathlib.Core.List.{List, [], _∷_, _++_, append-assoc}
-use Prim.Native.Nat.{ℕ, _+_, _-_, _≤_, _<_}
+use mathlib.Core.List.{List, [], _++_, append-assoc}
+use Prim.Native.Nat.{ℕ, _+_, _-_, _≤_}
 use native.Mathlib.Omega.{arith}
 use borrow.Rule.Slice.PartMut.{putMid}
 use lib.ListN.{length, drop, take}
@@ -10,12 +10,6 @@ use Rattle.std.specs.declared.option.Option.{Option}
 use Rattle.std.specs.declared.option.Option.the-variants.{Some, None}
 use Rattle.ul_nas.specs.Writing.{over}
 use Rattle.ul_nas.specs.Format.{optional}
-
-pub length-over : (code before : List ℕ) → length code ≤ length before → length (over code before) ≡ length before
-length-over code before h = length-append code (drop (length code) before) ∙ grow
-  where
-    grow : length code + length (drop (length code) before) ≡ length before
-    grow = omega (arith, length-drop (length code) before)
 
 -- `xs` is the buffer after `pre`, and `ys` its tail from `at` after `code` was written there
 pub over-more : (pre code before xs ys : List ℕ) (at k : ℕ) → at ≡ length pre → xs ≡ over pre before

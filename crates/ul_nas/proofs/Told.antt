@@ -1,14 +1,14 @@
 -- What octets say, where the tests of a layer are known.
 use mathlib.Core.Path.{_≡_, sym, ap, _∙_}
 use mathlib.Core.List.{List}
-use mathlib.Core.Bool.{true, false, cond}
+use mathlib.Core.Bool.{true, false}
 use Prim.Native.Nat.{ℕ}
 use lib.ListN.{drop, getD}
 use Rattle.std.specs.declared.option.Option.{Option}
 use Rattle.std.specs.declared.option.Option.the-variants.{Some, None}
 use Rattle.std.proofs.shelf.Tests.{cond-true, cond-false}
 use Rattle.ul_nas.specs.declared.message.RequestType.{RequestType}
-use Rattle.ul_nas.specs.Message.{Carried, Message, message}
+use Rattle.ul_nas.specs.Message.{Carried, message}
 use Rattle.ul_nas.specs.Lawful.{lawful}
 use Rattle.ul_nas.specs.Reading.{elementsOf, typeOctetOf, establishing, establishmentOf, carriedOf, judged, opening, told}
 

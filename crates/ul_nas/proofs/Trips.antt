@@ -1,17 +1,16 @@
 -- The round trip: a lawful message is told by its written form.
 use mathlib.Core.Path.{_≡_, refl, sym, ap, _∙_, subst}
 use mathlib.Core.List.{List, [], _∷_, _++_}
-use mathlib.Core.Bool.{Bool, true, false, cond, _&&_}
+use mathlib.Core.Bool.{Bool, true, false, cond}
 use Prim.Native.Nat.{ℕ, suc, _+_, _-_, _≤_, _<_}
 use native.Mathlib.Omega.{arith}
-use lib.Dec.{eqb, ltb, leb}
+use lib.Dec.{leb}
 use lib.ListN.{length, drop, take, getD}
 use Rattle.std.specs.declared.option.Option.{Option}
 use Rattle.std.specs.declared.option.Option.the-variants.{Some, None}
 use Rattle.std.specs.declared.result.Result.{Result}
 use Rattle.std.specs.declared.result.Result.the-variants.{Ok, Err}
 use Rattle.std.proofs.shelf.Lists.{append-nil, take-at, drop-at, length-append}
-use Rattle.std.proofs.shelf.Tests.{cond-true, eq-eqb}
 use Rattle.std.proofs.shelf.Ways.{tells}
 use Rattle.ul_nas.specs.declared.message.RequestType.{RequestType}
 use Rattle.ul_nas.specs.declared.message.RequestType.the-variants.{Initial, Existing, InitialEmergency, ExistingEmergency}
@@ -19,8 +18,8 @@ use Rattle.ul_nas.specs.declared.write.WriteRefusal.{WriteRefusal}
 use Rattle.ul_nas.specs.declared.write.WriteRefusal.the-variants.{NotLawful, Short}
 use Rattle.ul_nas.specs.Message.{Carried, establishment-request, modification-request, release-request, modification-complete, release-complete, status, Message, message, messageType, requestNumber}
 use Rattle.ul_nas.specs.Lawful.{lawful}
-use Rattle.ul_nas.specs.Format.{fixedPart, optional, elements, encoding}
-use Rattle.ul_nas.specs.Reading.{optionalOf, namedOf, slicedOf, elementsOf, typeOctetOf, establishing, reporting, ending, carriedOf, told}
+use Rattle.ul_nas.specs.Format.{fixedPart, optional, encoding}
+use Rattle.ul_nas.specs.Reading.{optionalOf, namedOf, slicedOf, elementsOf, typeOctetOf, carriedOf, told}
 use Rattle.ul_nas.specs.Writing.{over, writeAnswer, bufferAfter}
 use Rattle.ul_nas.specs.Laws.{Round-trip, ReadsBack}
 use Rattle.ul_nas.proofs.Layouts.{behind, layout, layout-is}

@@ -6,7 +6,6 @@ use lib.Dec.{eqb, leb}
 use lib.ListN.{length}
 use Rattle.std.specs.declared.option.Option.{Option}
 use Rattle.std.specs.declared.option.Option.the-variants.{Some, None}
-use Rattle.ul_nas.specs.declared.message.RequestType.{RequestType}
 use Rattle.ul_nas.specs.Message.{Carried, establishment-request, modification-request, release-request, modification-complete, release-complete, status, Message, message, emergency}
 
 -- a slice (S-NSSAI) has 1, 2, 4, 5 or 8 octets, or is absent

@@ -1,7 +1,7 @@
 -- Two worked messages, and their octets.
 use mathlib.Core.List.{List, [], _∷_}
 use Prim.Native.Nat.{ℕ}
-use Rattle.std.specs.declared.option.Option.the-variants.{Some, None}
+use Rattle.std.specs.declared.option.Option.the-variants.{Some}
 use Rattle.ul_nas.specs.declared.message.RequestType.the-variants.{Initial}
 use Rattle.ul_nas.specs.Message.{Message, message, establishment-request, release-complete}
 

@@ -1,6 +1,6 @@
 // What an uplink message says, and which messages are lawful.
 ghost use mathlib.Core.Path.{_≡_};
-ghost use Prim.Native.Nat.{ℕ, _+_};
+ghost use Prim.Native.Nat.{_+_};
 ghost use Rattle.std.specs.Options.{mapped};
 ghost use Rattle.ul_nas.specs.declared.message.Content.the-variants.{EstablishmentRequest};
 ghost use Rattle.ul_nas.specs.Message.{carried, viewed, requestNumber, requestTypeOf, emergency, messageType};

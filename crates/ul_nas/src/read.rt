@@ -1,8 +1,7 @@
 // Uplink messages, read back.
 ghost use mathlib.Core.Path.{_≡_};
-ghost use lib.ListN.{length, getD, drop};
 ghost use Rattle.std.specs.Options.{mapped};
-ghost use Rattle.std.specs.declared.option.Option.the-variants.{Some, None};
+ghost use Rattle.std.specs.declared.option.Option.the-variants.{Some};
 ghost use Rattle.ul_nas.specs.Message.{carried, viewed};
 ghost use Rattle.ul_nas.specs.Reading.{optionalOf, elementsOf, typeOctetOf, establishmentOf, headerOnlyOf, carriedOf, told, shown, readRefusalNumber};
 ghost use Rattle.ul_nas.specs.Laws.{ReadExactly, Exact};

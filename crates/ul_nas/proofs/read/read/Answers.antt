@@ -1,4 +1,3 @@
-use borrow.Author.Needs.{needs}
 use Rattle.std.specs.declared.result.Result.the-variants.{Ok, Err}
 use Rattle.ul_nas.proofs.Exacts.{exact, read-exactly}
 use Rattle.ul_nas.proofs.read.read.Needs as need

@@ -1,5 +1,4 @@
 use borrow.Author.Needs.{needs}
-use mathlib.Core.Path.{_≡_}
 use Rattle.std.proofs.shelf.Lists.{take-rest}
 use Rattle.ul_nas.proofs.Told.{established}
 use Rattle.ul_nas.proofs.read.read_establishment.Needs as need

@@ -1,7 +1,5 @@
 use borrow.Author.Needs.{needs}
-use borrow.Author.Tests.{ltb-true, ltb-false}
-use native.Mathlib.Omega.{arith}
-use Rattle.std.proofs.shelf.Lists.{take-rest, length-drop, places}
+use Rattle.std.proofs.shelf.Lists.{places}
 use Rattle.ul_nas.proofs.Tails.{optional-read, rest-rest}
 use Rattle.ul_nas.proofs.read.read_optional.Needs as need
 

@@ -1,6 +1,3 @@
-use borrow.Author.Needs.{needs}
-use mathlib.Core.Path.{_≡_}
-use mathlib.Core.Bool.{true}
 use native.Mathlib.Omega.{arith}
 use Prim.Native.Nat.{_≤_}
 use denote.Ref.{now}
@@ -9,7 +6,6 @@ use Rattle.std.specs.Options.{mapped}
 use Rattle.std.proofs.shelf.Lists.{length-append}
 use Rattle.ul_nas.specs.declared.message.Content.the-variants.{EstablishmentRequest}
 use Rattle.ul_nas.specs.Message.{carried}
-use Rattle.ul_nas.specs.Lawful.{lawfulElements}
 use Rattle.ul_nas.specs.Format.{optional, elements}
 use Rattle.ul_nas.proofs.Fits.{elements-fit}
 use Rattle.ul_nas.proofs.write.put_elements.Needs as need

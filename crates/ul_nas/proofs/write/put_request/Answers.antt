@@ -1,5 +1,4 @@
-use borrow.Author.Needs.{needs}
-use mathlib.Core.Path.{_≡_, refl, sym, ap, _∙_}
+use mathlib.Core.Path.{_≡_, refl, ap, _∙_}
 use mathlib.Core.List.{List, [], _∷_, _++_, append-assoc}
 use native.Mathlib.Omega.{arith}
 use Prim.Native.Nat.{ℕ, _+_}
@@ -7,7 +6,6 @@ use denote.Ref.{now}
 use lib.ListN.{length}
 use Rattle.std.specs.Options.{mapped}
 use Rattle.std.proofs.shelf.Lists.{length-append}
-use Rattle.ul_nas.specs.Message.{requestNumber}
 use Rattle.ul_nas.specs.Format.{optional}
 use Rattle.ul_nas.specs.Writing.{over}
 use Rattle.ul_nas.proofs.Overs.{over-more}
