@@ -6,12 +6,12 @@ ghost use Rattle.ul_nas.specs.Laws.{LongestIs};
 ghost use Rattle.ul_nas.specs.Worked.{workedRequest, workedRequestOctets, workedReply, workedReplyOctets};
 ghost use Rattle.std.specs.declared.option.Option.the-variants.{Some};
 
-// The most octets that a lawful message has.
+// The most octets that a lawful message has: up to the request type, the slice and the name with identifier and length.
 pub fn longest_encoding() -> usize
     ensures value { λ r. ⌜ r ≡ 127 ⌝ }
     ensures law { λ r. ⌜ LongestIs r ⌝ }
 {
-    127
+    15 + 2 + 8 + 2 + 100
 }
 
 // An initial request for the session 5, with PTI 1, a slice and a name.
