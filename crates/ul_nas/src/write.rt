@@ -7,7 +7,7 @@ ghost use Rattle.std.specs.Options.{mapped};
 ghost use Rattle.ul_nas.specs.declared.message.Content.the-variants.{EstablishmentRequest};
 ghost use Rattle.ul_nas.specs.Message.{carried, viewed};
 ghost use Rattle.ul_nas.specs.Lawful.{lawful, lawfulElements};
-ghost use Rattle.ul_nas.specs.Format.{frame, element, optional, elements, encoding};
+ghost use Rattle.ul_nas.specs.Format.{fixedPart, container, frame, element, optional, elements, encoding};
 ghost use Rattle.ul_nas.specs.Writing.{over, Fitting, writeAnswer, bufferAfter, refusalNumber};
 ghost use Rattle.ul_nas.specs.Laws.{Round-trip, ReadsBack};
 use crate::message::Content;
@@ -69,72 +69,44 @@ fn put_optional(out: &mut [u8], identifier: u8, content: Option<&[u8]>) -> usize
     }
 }
 
-// Writes the transport with the container, up to the identity behind it.
-fn put_frame(out: &mut [u8], message: &UplinkMessage<'_>) -> usize
-    requires { ⌜ length (frame (now message .identity) (now message .pti) (carried (now message .content))) ≤ length (now out) ⌝ }
-    ensures after { λ r. ⌜ now (out .exit) ≡ over (frame (now (message .entry) .identity) (now (message .entry) .pti) (carried (now (message .entry) .content))) (now (out .entry)) ⌝ }
-    ensures count { λ r. ⌜ r ≡ length (frame (now (message .entry) .identity) (now (message .entry) .pti) (carried (now (message .entry) .content))) ⌝ }
+// How many octets the container has: the header and the fixed part.
+fn container_length(content: &Content<'_>) -> u8
+    ensures { λ r. ⌜ r ≡ 4 + length (fixedPart (carried (now (content .entry)))) ⌝ }
+{
+    match *content {
+        Content::EstablishmentRequest(_) => 6,
+        Content::Status => 5,
+        _ => 4,
+    }
+}
+
+// Writes the container: 2E, identity, PTI, message type, fixed part.
+fn put_container(out: &mut [u8], message: &UplinkMessage<'_>) -> usize
+    requires { ⌜ 4 + length (fixedPart (carried (now message .content))) ≤ length (now out) ⌝ }
+    ensures after { λ r. ⌜ now (out .exit) ≡ over (container (now (message .entry) .identity) (now (message .entry) .pti) (carried (now (message .entry) .content))) (now (out .entry)) ⌝ }
+    ensures count { λ r. ⌜ r ≡ 4 + length (fixedPart (carried (now (message .entry) .content))) ⌝ }
 {
     let identity = message.identity;
     let pti = message.pti;
+    let octet = message.content.message_type();
     match message.content {
-        Content::EstablishmentRequest(_) => {
-            put(
-                out,
-                &[
-                    0x7E,
-                    0x00,
-                    0x67,
-                    0x01,
-                    0x00,
-                    0x06,
-                    0x2E,
-                    identity,
-                    pti,
-                    0xC1,
-                    0xFF,
-                    0xFF,
-                    0x12,
-                    identity,
-                ],
-            )
-        }
-        Content::Status => put(
-            out,
-            &[
-                0x7E,
-                0x00,
-                0x67,
-                0x01,
-                0x00,
-                0x05,
-                0x2E,
-                identity,
-                pti,
-                0xD6,
-                0x2B,
-                0x12,
-                identity,
-            ],
-        ),
-        _ => put(
-            out,
-            &[
-                0x7E,
-                0x00,
-                0x67,
-                0x01,
-                0x00,
-                0x04,
-                0x2E,
-                identity,
-                pti,
-                message.content.message_type(),
-                0x12,
-                identity,
-            ],
-        ),
+        Content::EstablishmentRequest(_) => put(out, &[0x2E, identity, pti, octet, 0xFF, 0xFF]),
+        Content::Status => put(out, &[0x2E, identity, pti, octet, 0x2B]),
+        _ => put(out, &[0x2E, identity, pti, octet]),
     }
+}
+
+// Writes the transport with the container, up to the identity behind it.
+fn put_frame(out: &mut [u8], message: &UplinkMessage<'_>) -> usize
+    requires { ⌜ 12 + length (fixedPart (carried (now message .content))) ≤ length (now out) ⌝ }
+    ensures after { λ r. ⌜ now (out .exit) ≡ over (frame (now (message .entry) .identity) (now (message .entry) .pti) (carried (now (message .entry) .content))) (now (out .entry)) ⌝ }
+    ensures count { λ r. ⌜ r ≡ 12 + length (fixedPart (carried (now (message .entry) .content))) ⌝ }
+{
+    let size = container_length(&message.content);
+    let mut at = put(out, &[0x7E, 0x00, 0x67, 0x01, 0x00, size]);
+    at += put_container(&mut out[at..], message);
+    at += put(&mut out[at..], &[0x12, message.identity]);
+    at
 }
 
 // Writes the elements of an establishment request: 8T with the request type T, the slice, the name.
@@ -161,17 +133,6 @@ fn put_elements(out: &mut [u8], content: Content<'_>) -> usize
     match content {
         Content::EstablishmentRequest(request) => put_request(out, request),
         _ => 0,
-    }
-}
-
-// How many octets the transport with the container has, up to the identity behind it.
-fn frame_length(message: &UplinkMessage<'_>) -> usize
-    ensures { λ r. ⌜ r ≡ length (frame (now (message .entry) .identity) (now (message .entry) .pti) (carried (now (message .entry) .content))) ⌝ }
-{
-    match message.content {
-        Content::EstablishmentRequest(_) => 14,
-        Content::Status => 13,
-        _ => 12,
     }
 }
 
@@ -204,7 +165,7 @@ fn encoded_length(message: &UplinkMessage<'_>) -> usize
     requires { ⌜ lawful (viewed (now message)) ≡ true ⌝ }
     ensures { λ r. ⌜ r ≡ length (encoding (viewed (now (message .entry)))) ⌝ }
 {
-    frame_length(message) + elements_length(message.content)
+    8 + usize::from(container_length(&message.content)) + elements_length(message.content)
 }
 
 // Writes a message: one that is not lawful is refused first, then a buffer that is too short.
