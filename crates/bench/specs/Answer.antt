@@ -1,4 +1,4 @@
--- What the bench answers, and the words of each answer.
+-- What the bench answers about timer octets, and the words of each answer.
 use mathlib.Core.List.{List, [], _∷_, _++_}
 use Prim.Native.Nat.{ℕ}
 use lib.Chars.{codes}
@@ -8,10 +8,7 @@ use Rattle.std.specs.declared.result.Result.the-variants.{Ok, Err}
 use Rattle.backoff.specs.declared.octet.TimerValue.{TimerValue}
 use Rattle.backoff.specs.declared.octet.TimerValue.the-variants as value
 use Rattle.backoff.specs.declared.octet.ShowRefusal.{ShowRefusal}
-use Rattle.backoff.specs.Octet.{reading, shown}
 use Rattle.script.specs.Hex.{capitals}
-use Rattle.bench.specs.declared.command.Command.{Command}
-use Rattle.bench.specs.declared.command.Command.the-variants as command
 use Rattle.bench.specs.declared.answer.Answer.{Answer}
 use Rattle.bench.specs.declared.answer.Answer.the-variants.{Starts, Stops, Deactivates, Shown, NotUnderstood}
 
@@ -25,10 +22,6 @@ does value.Deactivated = Deactivates
 abbrev pub shows : Result ℕ ShowRefusal → Answer
 shows (Ok octet) = Shown octet
 shows (Err refusal) = NotUnderstood
-
-abbrev pub answer-of : Command → Answer
-answer-of (command.Octet octet) = does (reading octet)
-answer-of (command.Seconds n) = shows (shown n)
 
 -- the words of an answer
 abbrev pub words-of : Answer → List ℕ

@@ -1,8 +1,8 @@
-// What the bench answers.
+// What the bench answers about timer octets.
 ghost use mathlib.Core.Path.{_≡_};
 ghost use Rattle.std.specs.declared.option.Option.the-variants.{Some};
-ghost use Rattle.bench.specs.Answer.{answer-of, words-of};
-use crate::command::Command;
+ghost use Rattle.backoff.specs.Octet.{reading, shown};
+ghost use Rattle.bench.specs.Answer.{does, shows, words-of};
 use backoff::octet::TimerValue;
 use backoff::octet::read;
 use backoff::octet::show;
@@ -10,7 +10,7 @@ use script::hex::Capitals;
 use script::hex::CapitalsDisplay;
 use std::fmt;
 
-// An answer of the bench.
+// An answer about a timer octet.
 #[derive(Clone, Copy)]
 pub enum Answer {
     Starts(u32),
@@ -20,20 +20,24 @@ pub enum Answer {
     NotUnderstood,
 }
 
-// The answer to a call.
-pub fn answer_to(command: Command) -> Answer
-    ensures { λ r. ⌜ r ≡ answer-of command ⌝ }
+// What a received timer octet does.
+pub fn octet_answer(octet: u8) -> Answer
+    ensures { λ r. ⌜ r ≡ does (reading octet) ⌝ }
 {
-    match command {
-        Command::Octet(octet) => match read(octet) {
-            TimerValue::Zero => Answer::Stops,
-            TimerValue::Seconds(seconds) => Answer::Starts(seconds),
-            TimerValue::Deactivated => Answer::Deactivates,
-        },
-        Command::Seconds(seconds) => match show(seconds) {
-            Ok(octet) => Answer::Shown(octet),
-            Err(_) => Answer::NotUnderstood,
-        },
+    match read(octet) {
+        TimerValue::Zero => Answer::Stops,
+        TimerValue::Seconds(seconds) => Answer::Starts(seconds),
+        TimerValue::Deactivated => Answer::Deactivates,
+    }
+}
+
+// The octet that shows some seconds, if one does.
+pub fn seconds_answer(seconds: u32) -> Answer
+    ensures { λ r. ⌜ r ≡ shows (shown seconds) ⌝ }
+{
+    match show(seconds) {
+        Ok(octet) => Answer::Shown(octet),
+        Err(_) => Answer::NotUnderstood,
     }
 }
 
