@@ -18,7 +18,11 @@ fn hex<W: fmt::Write>(f: &mut fmt::Formatter<W>, before: &str, octet: u8) -> fmt
 }
 
 // An octet that may be absent.
-fn optional_hex<W: fmt::Write>(f: &mut fmt::Formatter<W>, before: &str, octet: Option<u8>) -> fmt::Result {
+fn optional_hex<W: fmt::Write>(
+    f: &mut fmt::Formatter<W>,
+    before: &str,
+    octet: Option<u8>,
+) -> fmt::Result {
     match octet {
         Some(octet) => hex(f, before, octet),
         None => Ok(()),
