@@ -1,0 +1,4 @@
+mod Answered
+mod Shown
+mod Lined
+mod LineSteps
