@@ -1,0 +1,3 @@
+pub mod Sizes
+pub mod Layout
+pub mod Records
