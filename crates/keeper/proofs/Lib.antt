@@ -1,2 +1,4 @@
 mod Parts
 mod Listed
+mod Paged
+mod Held

@@ -68,5 +68,6 @@ pub written : (f g : ℕ → List ℕ) (n : ℕ) (content : List ℕ) (u : Unit)
 written f g n content u e w =
     let h = admitted n (length content) u e in replaced-listed f g n content (h .0) w ∙ sym (cond-true _ _ _ (h .1))
 
-pub told : (f : ℕ → List ℕ) (n : ℕ) (place : List ℕ) (u : Unit) → Ok u ≡ answered n (length place) → f n ≡ placeAfter (listed f) n place
-told f n place u e = let h = admitted n (length place) u e in told-listed f n (h .0) ∙ sym (cond-true _ _ _ (h .1))
+pub told : (f : ℕ → List ℕ) (n : ℕ) (place place′ : List ℕ) (u : Unit) → Ok u ≡ answered n (length place) → place′ ≡ f n → place′ ≡ placeAfter (listed f) n place
+told f n place place′ u e t =
+    let h = admitted n (length place) u e in t ∙ told-listed f n (h .0) ∙ sym (cond-true _ _ _ (h .1))

@@ -1,6 +1,6 @@
 -- Where the two makes of a keeper hold a record.
 use mathlib.Core.Path.{_≡_}
-use mathlib.Core.Bool.{cond}
+use mathlib.Core.Bool.{Bool, cond}
 use mathlib.Core.List.{List, map}
 use Prim.Native.Nat.{ℕ, zero, suc, _+_, _*_, _<_}
 use lib.Dec.{eqb}
@@ -36,3 +36,7 @@ entryContent page place = take recordLength (drop (entryLength * place + 1) page
 unfoldable pub latest : List ℕ → ℕ → ℕ → List ℕ
 latest page zero number = blank
 latest page (suc used) number = cond (eqb (entryNumber page used) number) (entryContent page used) (latest page used number)
+
+-- what the current one of two pages holds of a record
+abbrev pub current : Bool → List ℕ → ℕ → List ℕ → ℕ → ℕ → List ℕ
+current isSecond first firstUsed second secondUsed number = cond isSecond (latest second secondUsed number) (latest first firstUsed number)

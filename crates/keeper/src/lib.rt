@@ -7,6 +7,8 @@ ghost use Rattle.keeper.specs.Sizes.{recordCount, recordLength};
 ghost use Rattle.keeper.specs.Records.{answered, recordsAfter, placeAfter};
 
 pub mod flat_image;
+mod page;
+pub mod pages;
 
 // How many records there are, numbered from 0.
 pub const RECORDS: usize = 97;
