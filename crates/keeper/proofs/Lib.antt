@@ -2,3 +2,4 @@ mod Parts
 mod Listed
 mod Paged
 mod Held
+mod Calls

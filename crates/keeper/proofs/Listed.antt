@@ -30,16 +30,16 @@ replaced-counted size f g n new lt e o =
     (λ q. o i u q ∙ sym (getD-set-other (map f (counting 0 size)) n i new [] q ∙ getD-map-counting f 0 size i i [] u (omega arith)))
     (cases-eq i n))
 
-pub replaced-listed : (f g : ℕ → List ℕ) (n : ℕ) (new : List ℕ) → n < 97 → Replaced f g n new → listed g ≡ set (listed f) n new
+pub replaced-listed : (f g : ℕ → List ℕ) (n : ℕ) (new : List ℕ) → n < recordCount → Replaced f g n new → listed g ≡ set (listed f) n new
 unfolding listed
-replaced-listed f g n new lt w = replaced-counted 97 f g n new lt (w .0) (w .1)
+replaced-listed f g n new lt w = replaced-counted recordCount f g n new lt (w .0) (w .1)
 
 told-counted : (size : ℕ) (f : ℕ → List ℕ) (n : ℕ) → n < size → f n ≡ getD (map f (counting 0 size)) n []
 told-counted size f n lt = sym (getD-map-counting f 0 size n n [] lt (omega arith))
 
-pub told-listed : (f : ℕ → List ℕ) (n : ℕ) → n < 97 → f n ≡ getD (listed f) n []
+pub told-listed : (f : ℕ → List ℕ) (n : ℕ) → n < recordCount → f n ≡ getD (listed f) n []
 unfolding listed
-told-listed f n lt = told-counted 97 f n lt
+told-listed f n lt = told-counted recordCount f n lt
 
 blank-counted : (size : ℕ) (f : ℕ → List ℕ) (zeros : List ℕ) → ((n : ℕ) → n < size → f n ≡ zeros) → map f (counting 0 size) ≡ replicate size zeros
 blank-counted size f zeros e =

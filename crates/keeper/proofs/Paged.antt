@@ -14,7 +14,7 @@ use Rattle.std.proofs.shelf.Tests.{eq-eqb, ne-eqb, cond-true, cond-false}
 use Rattle.std.proofs.shelf.Lists.{places, take-take, drop-take, getD-take, take-set, length-set}
 use Rattle.std.proofs.shelf.Parts.{take-putMid-below}
 use Rattle.keeper.specs.Layout.{Replaced, blank, latest, entryNumber, entryContent}
-use Rattle.keeper.specs.Sizes.{recordCount, recordLength}
+use Rattle.keeper.specs.Sizes.{recordCount, recordLength, entryLength}
 use Rattle.keeper.proofs.Parts.{hit, part-length}
 
 pub latest-none : (page : List ℕ) (n : ℕ) → latest page 0 n ≡ blank
@@ -36,28 +36,28 @@ by-cond P true p q = p
 by-cond P false p q = q
 
 -- it rests on the octets of its entries alone
-pub latest-same : (a b : List ℕ) (u n : ℕ) → take (129 * u) a ≡ take (129 * u) b → latest a u n ≡ latest b u n
+pub latest-same : (a b : List ℕ) (u n : ℕ) → take (entryLength * u) a ≡ take (entryLength * u) b → latest a u n ≡ latest b u n
 unfolding latest
 latest-same a b zero n h = refl
 latest-same a b (suc u) n h =
-    let e : 129 * suc u ≡ 129 * u + 1 + 128 = omega arith in
-    let h′ : take (129 * u + 1 + 128) a ≡ take (129 * u + 1 + 128) b = rw e at h in
-    let lt : 129 * u < 129 * u + 1 + 128 = omega arith in
-    let le : 129 * u ≤ 129 * u + 1 + 128 = omega arith in
-    let t : entryNumber a u ≡ entryNumber b u = sym (getD-take _ a _ 0 lt) ∙ ap (λ xs. getD xs (129 * u) 0) h′ ∙ getD-take _ b _ 0 lt in
-    let d : entryContent a u ≡ entryContent b u = sym (drop-take (129 * u + 1) 128 a) ∙ ap (drop (129 * u + 1)) h′ ∙ drop-take (129 * u + 1) 128 b in
-    let r : latest a u n ≡ latest b u n = latest-same a b u n (sym (take-take _ _ a le) ∙ ap (take (129 * u)) h′ ∙ take-take _ _ b le) in
+    let e : entryLength * suc u ≡ entryLength * u + 1 + recordLength = omega arith in
+    let h′ : take (entryLength * u + 1 + recordLength) a ≡ take (entryLength * u + 1 + recordLength) b = rw e at h in
+    let lt : entryLength * u < entryLength * u + 1 + recordLength = omega arith in
+    let le : entryLength * u ≤ entryLength * u + 1 + recordLength = omega arith in
+    let t : entryNumber a u ≡ entryNumber b u = sym (getD-take _ a _ 0 lt) ∙ ap (λ xs. getD xs (entryLength * u) 0) h′ ∙ getD-take _ b _ 0 lt in
+    let d : entryContent a u ≡ entryContent b u = sym (drop-take (entryLength * u + 1) recordLength a) ∙ ap (drop (entryLength * u + 1)) h′ ∙ drop-take (entryLength * u + 1) recordLength b in
+    let r : latest a u n ≡ latest b u n = latest-same a b u n (sym (take-take _ _ a le) ∙ ap (take (entryLength * u)) h′ ∙ take-take _ _ b le) in
     cc
 
-pub entered : (u n k : ℕ) (xs ys new : List ℕ) → 129 * u + 129 ≤ length xs → ys ≡ new → length new ≡ 128 → k ≡ 128 → Replaced (latest xs u) (latest (putMid (129 * u + 1) k (set xs (129 * u) n) ys) (u + 1)) n new
+pub entered : (u n k : ℕ) (xs ys new : List ℕ) → entryLength * u + entryLength ≤ length xs → ys ≡ new → length new ≡ recordLength → k ≡ recordLength → Replaced (latest xs u) (latest (putMid (entryLength * u + 1) k (set xs (entryLength * u) n) ys) (u + 1)) n new
 entered u n k xs ys new le same long e =
-    let l : length ys ≡ 128 = ap length same ∙ long in
-    let s : length (set xs (129 * u) n) ≡ length xs = length-set xs (129 * u) n in
-    let page : List ℕ = putMid (129 * u + 1) k (set xs (129 * u) n) ys in
+    let l : length ys ≡ recordLength = ap length same ∙ long in
+    let s : length (set xs (entryLength * u) n) ≡ length xs = length-set xs (entryLength * u) n in
+    let page : List ℕ = putMid (entryLength * u + 1) k (set xs (entryLength * u) n) ys in
     let t : entryNumber page u ≡ n = search (needs, places) in
-    let d : entryContent page u ≡ ys = hit (129 * u + 1) 128 k (set xs (129 * u) n) ys (omega arith) l in
-    let below : take (129 * u) page ≡ take (129 * u) xs =
-    take-putMid-below (129 * u + 1) k (set xs (129 * u) n) ys (129 * u) (omega arith) (omega arith) ∙ take-set xs (129 * u) n in (
+    let d : entryContent page u ≡ ys = hit (entryLength * u + 1) recordLength k (set xs (entryLength * u) n) ys (omega arith) l in
+    let below : take (entryLength * u) page ≡ take (entryLength * u) xs =
+    take-putMid-below (entryLength * u + 1) k (set xs (entryLength * u) n) ys (entryLength * u) (omega arith) (omega arith) ∙ take-set xs (entryLength * u) n in (
       latest-hit page u n t ∙ d ∙ same,
       λ j h ne. latest-miss page u j (λ q. ne (sym q ∙ t)) ∙ latest-same page xs u j below,
     )
@@ -86,10 +86,10 @@ pub gathered-none : (f g : ℕ → List ℕ) (n : ℕ) → n < recordCount → G
 gathered-none f g n lt old e =
     (below-more (λ k. g k ≡ f k) n (old .0) (old .1 n (omega arith) lt ∙ sym e), λ k l u. old .1 k (omega arith) u)
 
-pub latest-length : (page : List ℕ) (u n : ℕ) → 129 * u ≤ length page → length (latest page u n) ≡ recordLength
+pub latest-length : (page : List ℕ) (u n : ℕ) → entryLength * u ≤ length page → length (latest page u n) ≡ recordLength
 unfolding latest
 latest-length page zero n le = search (needs, places)
 latest-length page (suc u) n le =
-    let d : length (entryContent page u) ≡ recordLength = part-length (129 * u + 1) 128 page (omega arith) in
+    let d : length (entryContent page u) ≡ recordLength = part-length (entryLength * u + 1) recordLength page (omega arith) in
     let r : length (latest page u n) ≡ recordLength = latest-length page u n (omega arith) in
     by-cond (λ xs. length xs ≡ recordLength) (eqb (entryNumber page u) n) d r

@@ -9,6 +9,7 @@ use borrow.Rule.Slice.PartMut.{putMid}
 use lib.ListN.{length, take, drop, getD, replicate}
 use Rattle.std.proofs.shelf.Tests.{cases-order}
 use Rattle.keeper.specs.Layout.{Replaced, part}
+use Rattle.keeper.specs.Sizes.{recordCount, recordLength, imageLength}
 use Rattle.std.proofs.shelf.Lists.{places, same-lists, drop-take, drop-replicate, take-replicate}
 use Rattle.std.proofs.shelf.Parts.{take-putMid-below, drop-putMid}
 
@@ -21,15 +22,15 @@ miss a b m n k xs ys le e f (inl h) =
 miss a b m n k xs ys le e f (inr h) =
     ap (take m) (drop-putMid a k xs ys b (omega arith) (omega arith) (omega arith))
 
--- two rows of 128 lie apart
-pub apart : (k n : ℕ) → (k ≡ n → ⊥) → (128 * k + 128 ≤ 128 * n) ⊎ (128 * n + 128 ≤ 128 * k)
+-- two records lie apart
+pub apart : (k n : ℕ) → (k ≡ n → ⊥) → (recordLength * k + recordLength ≤ recordLength * n) ⊎ (recordLength * n + recordLength ≤ recordLength * k)
 apart k n ne = ⊎-elim (λ e. absurd (ne e)) (⊎-elim (λ h. inl (omega arith)) (λ h. inr (omega arith))) (cases-order k n)
 
-pub replaced : (n k : ℕ) (xs ys new : List ℕ) → n < 97 → length xs ≡ 12416 → length new ≡ 128 → ys ≡ new → k ≡ 128 → Replaced (part xs) (part (putMid (128 * n) k xs ys)) n new
+pub replaced : (n k : ℕ) (xs ys new : List ℕ) → n < recordCount → length xs ≡ imageLength → length new ≡ recordLength → ys ≡ new → k ≡ recordLength → Replaced (part xs) (part (putMid (recordLength * n) k xs ys)) n new
 replaced n k xs ys new lt len long same e =
-    let l : length ys ≡ 128 = ap length same ∙ long in (
-      hit (128 * n) 128 k xs ys (omega arith) l ∙ same,
-      λ j h ne. miss (128 * n) (128 * j) 128 128 k xs ys (omega arith) l e (apart j n ne),
+    let l : length ys ≡ recordLength = ap length same ∙ long in (
+      hit (recordLength * n) recordLength k xs ys (omega arith) l ∙ same,
+      λ j h ne. miss (recordLength * n) (recordLength * j) recordLength recordLength k xs ys (omega arith) l e (apart j n ne),
     )
 
 pub zeros : (size a m : ℕ) → a + m ≤ size → take {A = ℕ} m (drop a (replicate size 0)) ≡ replicate m 0

@@ -11,7 +11,7 @@ recordLength = 128
 
 -- octets of all records, one behind the other
 abbrev pub imageLength : ℕ
-imageLength = 12416
+imageLength = recordCount * recordLength
 
 -- entries of a page
 abbrev pub pageEntries : ℕ
@@ -19,8 +19,8 @@ pageEntries = 128
 
 -- octets of an entry: the record's number and its content
 abbrev pub entryLength : ℕ
-entryLength = 129
+entryLength = 1 + recordLength
 
 -- octets of a page
 abbrev pub pageLength : ℕ
-pageLength = 16512
+pageLength = pageEntries * entryLength

@@ -6,6 +6,7 @@ ghost use lib.ListN.{length, getD};
 ghost use Rattle.keeper.specs.Sizes.{recordCount, recordLength};
 ghost use Rattle.keeper.specs.Records.{answered, recordsAfter, placeAfter};
 
+pub mod alike;
 pub mod flat_image;
 mod page;
 pub mod pages;
