@@ -1,0 +1,5 @@
+mod Parts
+mod Listed
+mod Paged
+mod Held
+mod Calls
