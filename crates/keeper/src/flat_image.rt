@@ -1,6 +1,6 @@
 // All records in one array, one behind the other.
 ghost use mathlib.Core.Path.{_≡_};
-ghost use Prim.Native.Nat.{ℕ, _<_};
+ghost use Prim.Native.Nat.{_<_};
 ghost use lib.ListN.{length, replicate};
 ghost use Rattle.keeper.specs.Sizes.{recordCount, recordLength, imageLength};
 ghost use Rattle.keeper.specs.Layout.{part, listed, Replaced};

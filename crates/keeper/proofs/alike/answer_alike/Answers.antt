@@ -1,10 +1,9 @@
-use mathlib.Core.Path.{_≡_, refl, sym, ap, subst, _∙_}
-use mathlib.Core.Bool.{_&&_}
+use mathlib.Core.Path.{refl, sym, ap, subst, _∙_}
 use mathlib.Core.List.{[], map}
 use Prim.Native.Nat.{_+_}
-use lib.ListN.{drop, getD}
+use lib.ListN.{drop}
 use Rattle.std.proofs.shelf.Lists.{drop-more, drop-all}
-use Rattle.keeper.specs.Alike.{asked, alike, afterAll, allAlike}
+use Rattle.keeper.specs.Alike.{asked, afterAll, allAlike}
 use Rattle.keeper.proofs.Calls.{Left, left-more, left-answer, same-alike}
 use Rattle.keeper.proofs.alike.answer_alike.Needs as need
 
