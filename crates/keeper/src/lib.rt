@@ -9,6 +9,7 @@ ghost use Rattle.keeper.specs.Records.{answered, recordsAfter, placeAfter};
 
 pub mod alike;
 pub mod flat_image;
+pub mod makes;
 mod page;
 pub mod pages;
 
