@@ -42,20 +42,12 @@ and-true : (a : Bool) → (a && true) ≡ a
 and-true true = refl
 and-true false = refl
 
--- whether all calls up to this one were answered alike
-pub unlike-more : (same same′ r : Bool) → same′ ≡ false → r ≡ false → same′ ≡ (same && r)
-unlike-more true same′ r e f = e ∙ sym f
-unlike-more false same′ r e f = e
-
-pub alike-more : (same same′ r : Bool) → same′ ≡ same → r ≡ true → same′ ≡ (same && r)
-alike-more same same′ r e f = e ∙ sym (and-true same) ∙ ap (λ b. same && b) (sym f)
-
-pub left-more : (one₀ other₀ : List (List ℕ)) (all : List Asked) (one other one′ other′ : List (List ℕ)) (call : Asked) (calls : List Asked) (same same′ r : Bool) → Left one₀ other₀ all one other (call ∷ calls) same → one′ ≡ after one call → other′ ≡ after other call → r ≡ alike one other call → same′ ≡ (same && r) → Left one₀ other₀ all one′ other′ calls same′
-left-more one₀ other₀ all one other one′ other′ call calls same same′ r l e f t h = record {
+pub left-more : (one₀ other₀ : List (List ℕ)) (all : List Asked) (one other one′ other′ : List (List ℕ)) (call : Asked) (calls : List Asked) (same same′ : Bool) → Left one₀ other₀ all one other (call ∷ calls) same → one′ ≡ after one call → other′ ≡ after other call → same′ ≡ (same && alike one other call) → Left one₀ other₀ all one′ other′ calls same′
+left-more one₀ other₀ all one other one′ other′ call calls same same′ l e f h = record {
   answer =
       ap (λ rs. same′ && allAlike rs other′ calls) e
       ∙ ap (λ rs. same′ && allAlike (after one call) rs calls) f
-      ∙ ap (λ b. b && allAlike (after one call) (after other call) calls) (h ∙ ap (λ b. same && b) t)
+      ∙ ap (λ b. b && allAlike (after one call) (after other call) calls) h
       ∙ and-assoc same (alike one other call) (allAlike (after one call) (after other call) calls)
       ∙ l .answer;
   of-one = ap (λ rs. afterAll rs calls) e ∙ l .of-one;

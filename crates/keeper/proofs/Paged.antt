@@ -1,7 +1,7 @@
 -- What a page tells of a record, entry by entry.
 use mathlib.Core.Path.{_≡_, refl, sym, ap, subst, _∙_}
 use mathlib.Core.Bool.{Bool, cond, true, false}
-use mathlib.Core.List.{List, _++_}
+use mathlib.Core.List.{List}
 use Prim.Native.Nat.{ℕ, zero, suc, _+_, _-_, _*_, _≤_, _<_}
 use native.Mathlib.Numerals.{add-one}
 use native.Mathlib.Omega.{arith}
@@ -49,16 +49,16 @@ latest-same a b (suc u) n h =
     let r : latest a u n ≡ latest b u n = latest-same a b u n (sym (take-take _ _ a le) ∙ ap (take (entryLength * u)) h′ ∙ take-take _ _ b le) in
     cc
 
-pub entered : (u n k : ℕ) (xs ys new : List ℕ) → entryLength * u + entryLength ≤ length xs → ys ≡ new → length new ≡ recordLength → k ≡ recordLength → Replaced (latest xs u) (latest (putMid (entryLength * u + 1) k (set xs (entryLength * u) n) ys) (u + 1)) n new
-entered u n k xs ys new le same long e =
-    let l : length ys ≡ recordLength = ap length same ∙ long in
+pub entered : (u n : ℕ) (xs ys new : List ℕ) → entryLength * u + entryLength ≤ length xs → length new ≡ recordLength → ys ≡ putMid (entryLength * u + 1) (length new) (set xs (entryLength * u) n) new → Replaced (latest xs u) (latest ys (u + 1)) n new
+entered u n xs ys new le long put =
     let s : length (set xs (entryLength * u) n) ≡ length xs = length-set xs (entryLength * u) n in
-    let page : List ℕ = putMid (entryLength * u + 1) k (set xs (entryLength * u) n) ys in
+    let page : List ℕ = putMid (entryLength * u + 1) (length new) (set xs (entryLength * u) n) new in
     let t : entryNumber page u ≡ n = search (needs, places) in
-    let d : entryContent page u ≡ ys = hit (entryLength * u + 1) recordLength k (set xs (entryLength * u) n) ys (omega arith) l in
+    let d : entryContent page u ≡ new = hit (entryLength * u + 1) recordLength (length new) (set xs (entryLength * u) n) new (omega arith) long in
     let below : take (entryLength * u) page ≡ take (entryLength * u) xs =
-    take-putMid-below (entryLength * u + 1) k (set xs (entryLength * u) n) ys (entryLength * u) (omega arith) (omega arith) ∙ take-set xs (entryLength * u) n in (
-      latest-hit page u n t ∙ d ∙ same,
+    take-putMid-below (entryLength * u + 1) (length new) (set xs (entryLength * u) n) new (entryLength * u) (omega arith) (omega arith) ∙ take-set xs (entryLength * u) n in
+    subst (λ image. Replaced (latest xs u) (latest image (u + 1)) n new) (sym put) (
+      latest-hit page u n t ∙ d,
       λ j h ne. latest-miss page u j (λ q. ne (sym q ∙ t)) ∙ latest-same page xs u j below,
     )
 

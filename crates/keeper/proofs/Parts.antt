@@ -1,12 +1,12 @@
 -- What a write to a part of a list leaves of another part.
-use mathlib.Core.Path.{_≡_, refl, sym, ap, subst, _∙_}
+use mathlib.Core.Path.{_≡_, sym, ap, subst, _∙_}
 use mathlib.Core.Logic.{_⊎_, inl, inr, ⊎-elim}
-use mathlib.Core.List.{List, _++_}
+use mathlib.Core.List.{List}
 use Prim.Native.Nat.{ℕ, _+_, _-_, _*_, _≤_, _<_}
 use native.Mathlib.Omega.{arith}
 use borrow.Author.Needs.{needs}
 use borrow.Rule.Slice.PartMut.{putMid}
-use lib.ListN.{length, take, drop, getD, replicate}
+use lib.ListN.{length, take, drop, replicate}
 use Rattle.std.proofs.shelf.Tests.{cases-order}
 use Rattle.keeper.specs.Layout.{Replaced, part}
 use Rattle.keeper.specs.Sizes.{recordCount, recordLength, imageLength}
@@ -26,12 +26,15 @@ miss a b m n k xs ys le e f (inr h) =
 pub apart : (k n : ℕ) → (k ≡ n → ⊥) → (recordLength * k + recordLength ≤ recordLength * n) ⊎ (recordLength * n + recordLength ≤ recordLength * k)
 apart k n ne = ⊎-elim (λ e. absurd (ne e)) (⊎-elim (λ h. inl (omega arith)) (λ h. inr (omega arith))) (cases-order k n)
 
-pub replaced : (n k : ℕ) (xs ys new : List ℕ) → n < recordCount → length xs ≡ imageLength → length new ≡ recordLength → ys ≡ new → k ≡ recordLength → Replaced (part xs) (part (putMid (recordLength * n) k xs ys)) n new
-replaced n k xs ys new lt len long same e =
-    let l : length ys ≡ recordLength = ap length same ∙ long in (
-      hit (recordLength * n) recordLength k xs ys (omega arith) l ∙ same,
-      λ j h ne. miss (recordLength * n) (recordLength * j) recordLength recordLength k xs ys (omega arith) l e (apart j n ne),
-    )
+pub replaced : (n : ℕ) (xs ys new : List ℕ) → n < recordCount → length xs ≡ imageLength → length new ≡ recordLength → ys ≡ putMid (recordLength * n) (length new) xs new → Replaced (part xs) (part ys) n new
+replaced n xs ys new lt len long put = subst (λ image. Replaced (part xs) (part image) n new) (sym put) (
+  hit (recordLength * n) recordLength (length new) xs new (omega arith) long,
+  λ j h ne. miss (recordLength * n) (recordLength * j) recordLength recordLength (length new) xs new (omega arith) long long (apart j n ne),
+)
+
+-- a part that is written over leaves the length
+pub put-length : (a : ℕ) (xs ys new : List ℕ) → a + length new ≤ length xs → ys ≡ putMid a (length new) xs new → length ys ≡ length xs
+put-length a xs ys new le put = ap length put ∙ search (needs, places)
 
 pub zeros : (size a m : ℕ) → a + m ≤ size → take {A = ℕ} m (drop a (replicate size 0)) ≡ replicate m 0
 zeros size a m le = ap (take m) (drop-replicate a size 0) ∙ take-replicate m (size - a) 0 (omega arith)

@@ -1,6 +1,6 @@
 // The same calls to two keepers, and whether both answer alike.
 ghost use mathlib.Core.Path.{_≡_};
-ghost use mathlib.Core.Bool.{true};
+ghost use mathlib.Core.Bool.{true, _&&_};
 ghost use mathlib.Core.List.{map};
 ghost use Rattle.std.specs.shelf.Text.{sameBytes};
 ghost use Rattle.keeper.specs.Records.{recordsAfter, placeAfter};
@@ -65,6 +65,21 @@ fn call_alike<A: Keeper, B: Keeper>(one: &mut A, other: &mut B, call: KeeperCall
     }
 }
 
+// One call more to both: whether this one and those before it were answered alike.
+fn still_alike<A: Keeper, B: Keeper>(
+    one: &mut A,
+    other: &mut B,
+    call: KeeperCall<'_>,
+    same: bool,
+) -> bool
+    ensures answer { λ r. ⌜ r ≡ (same && alike (A·Keeper .records (now (one .entry))) (B·Keeper .records (now (other .entry))) (asked (call .entry))) ⌝ }
+    ensures one { λ _. ⌜ A·Keeper .records (now (one .exit)) ≡ after (A·Keeper .records (now (one .entry))) (asked (call .entry)) ⌝ }
+    ensures other { λ _. ⌜ B·Keeper .records (now (other .exit)) ≡ after (B·Keeper .records (now (other .entry))) (asked (call .entry)) ⌝ }
+{
+    let now_alike = call_alike(one, other, call);
+    same && now_alike
+}
+
 // Performs the calls on both, in their order, and says whether all were answered alike.
 pub fn answer_alike<A: Keeper, B: Keeper>(
     one: &mut A,
@@ -78,9 +93,7 @@ pub fn answer_alike<A: Keeper, B: Keeper>(
 {
     let mut same = true;
     for i in 0..calls.len() {
-        if !call_alike(one, other, calls[i]) {
-            same = false;
-        }
+        same = still_alike(one, other, calls[i], same);
     }
     same
 }

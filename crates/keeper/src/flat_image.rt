@@ -1,7 +1,7 @@
 // All records in one array, one behind the other.
 ghost use mathlib.Core.Path.{_≡_};
-ghost use Prim.Native.Nat.{ℕ, _<_};
-ghost use lib.ListN.{length};
+ghost use Prim.Native.Nat.{_<_};
+ghost use lib.ListN.{length, replicate};
 ghost use Rattle.keeper.specs.Sizes.{recordCount, recordLength, imageLength};
 ghost use Rattle.keeper.specs.Layout.{part, listed, Replaced};
 ghost use Rattle.keeper.specs.Records.{blankRecords};
@@ -10,6 +10,7 @@ use crate::KeeperRefusal;
 use crate::RECORD_LENGTH;
 use crate::RECORDS;
 use crate::admit;
+use crate::put_part;
 
 const IMAGE_LENGTH: usize = RECORDS * RECORD_LENGTH;
 
@@ -19,14 +20,19 @@ pub struct FlatImage {
     ghost whole: { length image ≡ imageLength },
 }
 
+// The octets of records that were never written.
+fn zeros() -> [u8; IMAGE_LENGTH]
+    ensures octets { λ r. ⌜ r ≡ replicate imageLength 0 ⌝ }
+{
+    [0; IMAGE_LENGTH]
+}
+
 impl FlatImage {
     // All records are zeros.
     pub fn new() -> FlatImage
         ensures records { λ r. ⌜ listed (part (r .image)) ≡ blankRecords ⌝ }
     {
-        FlatImage {
-            image: [0; IMAGE_LENGTH],
-        }
+        FlatImage { image: zeros() }
     }
 
     // Replaces a record.
@@ -35,8 +41,7 @@ impl FlatImage {
         ensures records { λ _. ⌜ Replaced (part (now (self .entry) .image)) (part (now (self .exit) .image)) number (now (content .entry)) ⌝ }
     {
         let from = RECORD_LENGTH * number as usize;
-        self.image[from..from + RECORD_LENGTH]
-            .copy_from_slice(content);
+        put_part(&mut self.image, from, content);
     }
 
     // Tells a record.

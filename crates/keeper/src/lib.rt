@@ -1,13 +1,15 @@
 // Records that outlive a switch-off: the trait of their keepers.
 ghost use mathlib.Core.Path.{_≡_};
 ghost use mathlib.Core.List.{List, []};
-ghost use Prim.Native.Nat.{ℕ, _<_};
+ghost use Prim.Native.Nat.{ℕ, _+_, _<_, _≤_};
+ghost use borrow.Rule.Slice.PartMut.{putMid};
 ghost use lib.ListN.{length, getD};
 ghost use Rattle.keeper.specs.Sizes.{recordCount, recordLength};
 ghost use Rattle.keeper.specs.Records.{answered, recordsAfter, placeAfter};
 
 pub mod alike;
 pub mod flat_image;
+pub mod makes;
 mod page;
 pub mod pages;
 
@@ -55,4 +57,12 @@ pub(crate) fn admit(number: u8, length: usize) -> Result<(), KeeperRefusal>
         return Err(KeeperRefusal::Length);
     }
     Ok(())
+}
+
+// Writes a content over a part of the octets.
+pub(crate) fn put_part(octets: &mut [u8], at: usize, content: &[u8])
+    requires { ⌜ at + length (now content) ≤ length (now octets) ⌝ }
+    ensures octets { λ _. ⌜ now (octets .exit) ≡ putMid at (length (now (content .entry))) (now (octets .entry)) (now (content .entry)) ⌝ }
+{
+    octets[at..at + content.len()].copy_from_slice(content);
 }

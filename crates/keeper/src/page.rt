@@ -9,6 +9,7 @@ ghost use Rattle.keeper.specs.Layout.{Replaced, blank, latest, entryContent};
 use crate::PAGE_ENTRIES;
 use crate::RECORD_LENGTH;
 use crate::RECORDS;
+use crate::put_part;
 
 const ENTRY_LENGTH: usize = 1 + RECORD_LENGTH;
 
@@ -27,7 +28,6 @@ impl Page {
     // No entry.
     pub(crate) fn new() -> Page
         ensures used { λ r. ⌜ r .used ≡ 0 ⌝ }
-        ensures records { λ r. ⌜ ((n : ℕ) → latest (r .image) (r .used) n ≡ blank) ⌝ }
     {
         Page {
             image: [0; PAGE_LENGTH],
@@ -65,8 +65,7 @@ impl Page {
     {
         let from = ENTRY_LENGTH * self.used;
         self.image[from] = number;
-        self.image[from + 1..from + ENTRY_LENGTH]
-            .copy_from_slice(content);
+        put_part(&mut self.image, from + 1, content);
         self.used += 1;
     }
 

@@ -1,6 +1,6 @@
 // Two pages of entries, of which one is current: there the latest entry of a record counts.
 ghost use mathlib.Core.Path.{_≡_};
-ghost use Prim.Native.Nat.{ℕ, _<_};
+ghost use Prim.Native.Nat.{_<_};
 ghost use lib.ListN.{length};
 ghost use Rattle.keeper.specs.Sizes.{recordCount, recordLength};
 ghost use Rattle.keeper.specs.Layout.{current, listed, Replaced};

@@ -1,13 +1,11 @@
-use mathlib.Core.Path.{_≡_, refl, sym, ap, subst, _∙_}
-use mathlib.Core.Bool.{_&&_}
+use mathlib.Core.Path.{refl, sym, ap, subst, _∙_}
 use mathlib.Core.List.{[], map}
 use Prim.Native.Nat.{_+_}
-use lib.ListN.{drop, getD}
+use lib.ListN.{drop}
 use Rattle.std.proofs.shelf.Lists.{drop-more, drop-all}
-use Rattle.keeper.specs.Alike.{asked, alike, afterAll, allAlike}
-use Rattle.keeper.proofs.Calls.{Left, left-more, left-answer, unlike-more, alike-more, same-alike}
+use Rattle.keeper.specs.Alike.{asked, afterAll, allAlike}
+use Rattle.keeper.proofs.Calls.{Left, left-more, left-answer, same-alike}
 use Rattle.keeper.proofs.alike.answer_alike.Needs as need
-use Rattle.keeper.proofs.alike.answer_alike.Needs.{then-not-call-alike, else-not-call-alike}
 
 pub loop-i-holds : need.loop-i-holds
 loop-i-holds g c = record { answer = refl; of-one = refl; of-other = refl }
@@ -18,12 +16,8 @@ loop-i-again g c =
     let b = g .B·Keeper .records in
     let calls = c .args .calls .now in
     let l = subst (λ cs. Left (a (c .args .one .now)) (b (c .args .other .now)) (map asked calls) (a (c .loop-i .one)) (b (c .loop-i .other)) (map asked cs) (c .loop-i .same)) (drop-more calls (c .loop-i .i) _ (c .loop-i-test .taken)) (c .loop-i .inv) in
-    let e = c .call-alike .ensures in
-    left-more _ _ _ _ _ _ _ _ (map asked (drop (c .loop-i .i + 1) calls)) _ _ (c .call-alike .result) l (e .one) (e .other) (e .answer)
-    (elim (c .if-not-call-alike .came) [
-      | then-not-call-alike w ↦ unlike-more _ _ _ (w .same-is) (w .if-not-call-alike .taken)
-      | else-not-call-alike w ↦ alike-more _ _ _ (w .same-is) (w .if-not-call-alike .left)
-    ])
+    let e = c .still-alike-same .ensures in
+    left-more _ _ _ _ _ _ _ _ (map asked (drop (c .loop-i .i + 1) calls)) _ _ l (e .one) (e .other) (e .answer)
 
 pub returns : need.returns
 returns g c =

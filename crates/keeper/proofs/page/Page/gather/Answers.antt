@@ -1,6 +1,5 @@
 use mathlib.Core.Path.{_∙_, sym}
 use native.Mathlib.Omega.{arith}
-use Rattle.keeper.specs.Layout.{latest}
 use Rattle.keeper.proofs.Paged.{latest-none, gathered-entry, gathered-none}
 use Rattle.keeper.proofs.page.Page.gather.Needs as need
 use Rattle.keeper.proofs.page.Page.gather.Needs.{in-Some, in-rest}
