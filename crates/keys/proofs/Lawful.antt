@@ -5,6 +5,7 @@ use Rattle.std.specs.shelf.Text.{sameBytes}
 use Rattle.std.proofs.shelf.Equals.{sameBytes-decides}
 use Rattle.std.proofs.shelf.Tests.{and-parts, and-from}
 use Rattle.keys.specs.Same.{Laws, by, both}
+use Rattle.keys.specs.Octets.{same-key}
 use Rattle.keys.specs.Parts.{name-octets, slice-octets}
 use Rattle.keys.specs.Sames.{same-name, same-slice, same-network, same-name-key, same-slice-name-key, same-slice-key}
 
@@ -50,3 +51,7 @@ slice-key-lawful = both-lawful (by-lawful (λ k. k .network) network-lawful) (by
 pub slice-name-key-lawful : Laws same-slice-name-key
 slice-name-key-lawful =
     both-lawful (by-lawful (λ k. k .network) network-lawful) (both-lawful (by-lawful (λ k. k .slice) slice-lawful) (by-lawful (λ k. k .name) name-lawful))
+
+-- sameness of keys by their octets
+pub key-lawful : Laws same-key
+key-lawful = both-lawful (by-lawful (λ k. k .network) octets-lawful) (both-lawful (by-lawful (λ k. k .slice) octets-lawful) (by-lawful (λ k. k .name) octets-lawful))
