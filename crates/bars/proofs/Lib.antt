@@ -1,0 +1,4 @@
+pub mod Rows
+pub mod Distincts
+pub mod Loops
+pub mod Changes

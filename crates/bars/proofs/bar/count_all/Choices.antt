@@ -1,0 +1,11 @@
+use mathlib.Core.Path.{_≡_}
+use mathlib.Core.List.{_++_, map}
+use lib.ListN.{take, drop}
+use Rattle.bars.specs.Bars.{retimed}
+use Rattle.backoff.specs.Timer.{counted}
+use Rattle.bars.proofs.bar.count_all.Given as given
+
+abbrev pub Inv-loop-bar : given.InvT-loop-bar
+Inv-loop-bar g l =
+    let f = retimed {K = g .K .Denot} (λ _ t. counted (l .seconds) t) in
+    l .bars ≡ map f (take (l .bar-index) (l .entry .bars)) ++ drop (l .bar-index) (l .entry .bars)

@@ -1,0 +1,3 @@
+pub mod Bars
+pub mod Claimed
+pub mod Laws
