@@ -1,0 +1,3 @@
+pub mod Record
+pub mod Views
+pub mod Answers
