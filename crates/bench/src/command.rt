@@ -1,4 +1,5 @@
 // What a line of the script asks for.
+use bar_record::kept::RECORD_LENGTH;
 use script::hex::HexFault;
 use script::hex::octet;
 use script::hex::octets;
@@ -15,6 +16,7 @@ pub enum Command {
     Seconds(u32),
     Read(Vec<u8>),
     Sent(Vec<u8>),
+    Record(Vec<u8>),
 }
 
 // A line of the script: an empty line or a remark, a call, or neither.
@@ -32,6 +34,7 @@ enum Verb {
     Seconds,
     Read,
     Sent,
+    Record,
     Other,
 }
 
@@ -44,6 +47,8 @@ fn verb_of(word: &[u8]) -> Verb {
         Verb::Read
     } else if is_spelled(word, b"sent") {
         Verb::Sent
+    } else if is_spelled(word, b"record") {
+        Verb::Record
     } else {
         Verb::Other
     }
@@ -83,6 +88,10 @@ fn call(heap: Global, line: &[u8]) -> Result<Option<Command>, AllocError> {
         Verb::Sent => match octets_of(heap, argument)? {
             Some(octets) => Command::Sent(octets),
             None => return Ok(None),
+        },
+        Verb::Record => match octets_of(heap, argument)? {
+            Some(octets) if octets.len() == RECORD_LENGTH => Command::Record(octets),
+            _ => return Ok(None),
         },
         Verb::Other => return Ok(None),
     };

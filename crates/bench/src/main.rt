@@ -3,6 +3,7 @@
 mod answer;
 mod command;
 mod messages;
+mod records;
 
 use answer::Answer;
 use answer::AnswerDisplay;
@@ -13,6 +14,7 @@ use command::Line;
 use command::understand;
 use messages::tell_handset;
 use messages::tell_network;
+use records::tell_record;
 use std::alloc::Global;
 use std::io;
 use std::io::BufRead;
@@ -31,6 +33,7 @@ fn perform(out: &mut impl Write, command: Command) -> io::Result<()> {
         Command::Seconds(seconds) => write_answer(out, seconds_answer(seconds)),
         Command::Read(octets) => tell_network(out, octets.as_slice()),
         Command::Sent(octets) => tell_handset(out, octets.as_slice()),
+        Command::Record(octets) => tell_record(out, octets.as_slice()),
     }
 }
 
