@@ -1,0 +1,4 @@
+pub mod Steps
+pub mod Free
+pub mod Listing
+pub mod Differing

@@ -1,0 +1,5 @@
+pub mod Table
+pub mod Ptis
+pub mod Acts
+pub mod Live
+pub mod Laws
