@@ -1,0 +1,4 @@
+pub mod Questions
+pub mod State
+pub mod Wanted
+pub mod Decisions
