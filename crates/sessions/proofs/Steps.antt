@@ -39,11 +39,11 @@ module _ (xs : List Session) (i : ℕ) (x : Session) (h : i < length xs) (is : x
   pending-step = at-session pending ∙ length-with (waiting-pti (session-view x)) (waiting-ptis (views (drop (i + 1) xs)))
 
   -- the session at a place
-  pub view-at : nth (views xs) i ≡ Some (session-view x)
+  view-at : nth (views xs) i ≡ Some (session-view x)
   view-at =
       nth-getD (views xs) i (session-view x) (rw length-map h) ∙ ap (λ y. Some y) (getD-map session-view xs i x (session-view x) h ∙ ap session-view (sym is))
 
-pub place-within : (i k : ℕ) → Some i ≡ place-of k → i < 15
+place-within : (i k : ℕ) → Some i ≡ place-of k → i < 15
 place-within i k e = grind (arith, tells)
 
 module _ (xs : List Session) (full : length xs ≡ 15) (i k : ℕ) (e : Some i ≡ place-of k) (x : Session) (is : x ≡ getD xs i x) where

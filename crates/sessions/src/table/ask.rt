@@ -27,10 +27,7 @@ pub(crate) fn place_of(identity: u8) -> Option<usize>
 fn is_pending(session: &Session) -> bool
     ensures { λ r. ⌜ r ≡ is-pending (session-view (now (session .entry))) ⌝ }
 {
-    match session.waiting_pti() {
-        Some(_) => true,
-        None => false,
-    }
+    session.waiting_pti().is_some()
 }
 
 // Whether a session's waiting request has this PTI.
