@@ -1,3 +1,4 @@
+pub mod Sizes
 pub mod Bars
 pub mod Claimed
 pub mod Laws

@@ -13,6 +13,7 @@ use Rattle.session.specs.State.{inactive, active}
 use Rattle.sessions.specs.Table.{session-of}
 use Rattle.timers.specs.Parts.{name-key, slice-name-key, slice-key, session-parts}
 use Rattle.ul_nas.specs.Message.{emergency}
+use Rattle.uplink.specs.Waiting.{room}
 use Rattle.requests.specs.Wanted.{WantedView}
 use Rattle.timers.specs.Timers.{barred-by, room-in}
 use Rattle.requests.specs.declared.question.Question.{Question}
@@ -24,7 +25,7 @@ use Rattle.requests.specs.State.{StateView}
 abbrev pub let-out-stop : StateView → ℕ → Option Question
 let-out-stop s waiting =
     cond (not (ltb (s .tally .«let_out») 1000000000)) (Some question.LetOut)
-    (cond (not (ltb waiting 8)) (Some question.Waiting) None)
+    (cond (not (room waiting)) (Some question.Waiting) None)
 
 -- 7 to 9: the first timer that is running or deactivated on its key
 abbrev pub timers-stop : StateView → KeyOctets → Option Question

@@ -22,12 +22,10 @@ use sessions::live::session_key::SliceKeyOfSession;
 use sessions::live::session_key::SliceNameKeyOfSession;
 use sessions::table::Sessions;
 use timers::parts::KeyParts;
+use uplink::queue::CAPACITY;
 
 // Requests that may be let out since switch-on.
 pub const MOST_LET_OUT: u32 = 1_000_000_000;
-
-// Messages that may wait in the uplink.
-pub const MOST_WAITING: usize = 8;
 
 // The keys of one kind that live sessions claim, and the request's key behind them.
 fn keys_with<K: SessionKey + Copy>(sessions: &Sessions, key: K) -> LiveKeys<K>
@@ -43,7 +41,7 @@ impl State {
     {
         if self.tally.let_out >= MOST_LET_OUT {
             Some(Question::LetOut)
-        } else if waiting >= MOST_WAITING {
+        } else if waiting >= CAPACITY {
             Some(Question::Waiting)
         } else {
             None

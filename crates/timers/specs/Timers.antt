@@ -12,6 +12,7 @@ use Rattle.backoff.specs.declared.timer.BackOffTimer.{BackOffTimer}
 use Rattle.backoff.specs.declared.timer.BackOffTimer.the-variants.{Stopped, Running, Deactivated}
 use Rattle.bars.specs.declared.bar.Bar.{Bar}
 use Rattle.bars.specs.Bars.{shown, stands, timer-on, imposed, lifted, deactivated-lifted, counted-off}
+use Rattle.bars.specs.Sizes.{place-count}
 use Rattle.bars.specs.Claimed.{claimed}
 use Rattle.keys.specs.Octets.{KeyOctets}
 use Rattle.keys.specs.Sames.{name-key-octets, slice-name-key-octets, slice-key-octets}
@@ -31,9 +32,9 @@ pub record TimersView : Type 0 where
 abbrev pub timers-view : Timers → TimersView
 timers-view t = record { t3396 = shown name-key-octets (t .t3396 .places); t3584 = shown slice-name-key-octets (t .t3584 .places); t3585 = shown slice-key-octets (t .t3585 .places) }
 
--- 32 free places
+-- a table of free places
 abbrev pub free-places : KeyOctets → List (Bar KeyOctets)
-free-places k = replicate 32 (record { key = k; timer = Stopped })
+free-places k = replicate place-count (record { key = k; timer = Stopped })
 
 abbrev pub no-parts : KeyOctets
 no-parts = record { network = 0 ∷ 0 ∷ 0 ∷ []; slice = []; name = [] }
@@ -82,4 +83,4 @@ ruled LiftAll k t = record { t3396 = lifted (name-key k) (t .t3396); t3584 = lif
 -- at most 32 different keys of each kind are claimed, by bars or by others that have these keys
 abbrev pub room-in : TimersView → List KeyOctets → List KeyOctets → List KeyOctets → Bool
 room-in v names slice-names slices =
-    leb (claimed (v .t3396) names) 32 && (leb (claimed (v .t3584) slice-names) 32 && leb (claimed (v .t3585) slices) 32)
+    leb (claimed (v .t3396) names) place-count && (leb (claimed (v .t3584) slice-names) place-count && leb (claimed (v .t3585) slices) place-count)

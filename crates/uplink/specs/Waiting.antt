@@ -6,18 +6,11 @@ use lib.Dec.{eqb, leb, ltb}
 use lib.ListN.{length, drop, getD}
 use Rattle.std.specs.declared.result.Result.{Result}
 use Rattle.std.specs.declared.result.Result.the-variants.{Ok, Err}
+use Rattle.uplink.specs.Sizes.{capacity, longest-message}
 use Rattle.uplink.specs.declared.refusal.SendRefusal.{SendRefusal}
 use Rattle.uplink.specs.declared.refusal.SendRefusal.the-variants.{Length, Full}
 use Rattle.uplink.specs.declared.refusal.TakeRefusal.{TakeRefusal}
 use Rattle.uplink.specs.declared.refusal.TakeRefusal.the-variants.{Empty, Short}
-
--- as many messages may wait
-abbrev pub capacity : ℕ
-capacity = 8
-
--- a message has at most so many octets
-abbrev pub longest-message : ℕ
-longest-message = 128
 
 -- a message may be sent if it has octets, and not too many
 abbrev pub sendable : ℕ → Bool

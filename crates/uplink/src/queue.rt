@@ -3,6 +3,7 @@ ghost use mathlib.Core.List.{List, []};
 ghost use mathlib.Core.Path.{_≡_};
 ghost use Prim.Native.Nat.{ℕ, _<_, _≤_};
 ghost use lib.ListN.{length, getD};
+ghost use Rattle.uplink.specs.Sizes.{capacity, longest-message};
 ghost use Rattle.uplink.specs.Waiting.{send-answer, after-send, oldest, take-answer, after-take, place-after};
 use crate::refusal::SendRefusal;
 use crate::refusal::TakeRefusal;
@@ -17,9 +18,9 @@ pub const LONGEST_MESSAGE: usize = 128;
 pub trait Uplink {
     ghost waiting: { Self → List (List ℕ) };
 
-    law few: { (s : Self) → length (waiting s) ≤ 8 };
+    law few: { (s : Self) → length (waiting s) ≤ capacity };
 
-    law short: { (s : Self) (k : ℕ) → length (getD (waiting s) k []) ≤ 128 };
+    law short: { (s : Self) (k : ℕ) → length (getD (waiting s) k []) ≤ longest-message };
 
     // How many messages wait.
     fn count(&self) -> usize

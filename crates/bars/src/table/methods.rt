@@ -9,7 +9,9 @@ ghost use Rattle.std.specs.Options.{mapped};
 ghost use Rattle.std.specs.shelf.Maps.{nth};
 ghost use Rattle.bars.specs.Bars.{bar-octets, shown, timer-on, standing, has-place, imposed, lifted, deactivated-lifted, counted-off};
 ghost use Rattle.bars.specs.Claimed.{claimed};
+ghost use Rattle.bars.specs.Sizes.{place-count};
 ghost use Rattle.bars.specs.Laws.{Imposes, Lifts, Reactivates, Counts};
+use super::PLACES;
 use super::Table;
 use crate::bar::Bar;
 use crate::bar::activate_all;
@@ -25,13 +27,13 @@ use keys::key::Key;
 impl<K: Key + Copy> Table<K> {
     // The table in which no bar stands. The given key is at every place, and its timer is stopped.
     pub fn new(blank: K) -> Table<K>
-        ensures { λ r. ⌜ shown (K·Key .octets) (r .places) ≡ replicate 32 (record { key = K·Key .octets blank; timer = Stopped }) ⌝ }
+        ensures { λ r. ⌜ shown (K·Key .octets) (r .places) ≡ replicate place-count (record { key = K·Key .octets blank; timer = Stopped }) ⌝ }
     {
         Table {
             places: [Bar {
                 key: blank,
                 timer: BackOffTimer::Stopped,
-            }; 32],
+            }; PLACES],
         }
     }
 
@@ -87,7 +89,7 @@ impl<K: Key + Copy> Table<K> {
     pub fn bar_at(&self, place: usize) -> Option<Bar<K>>
         ensures { λ r. ⌜ mapped (bar-octets (K·Key .octets)) r ≡ nth (shown (K·Key .octets) (now (self .entry) .places)) place ⌝ }
     {
-        if place >= 32 {
+        if place >= PLACES {
             return None;
         }
         Some(self.places[place])

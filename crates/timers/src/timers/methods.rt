@@ -4,6 +4,7 @@ ghost use mathlib.Core.List.{map};
 ghost use mathlib.Core.Path.{_≡_};
 ghost use lib.Dec.{leb};
 ghost use Rattle.bars.specs.Bars.{shown, apart};
+ghost use Rattle.bars.specs.Sizes.{place-count};
 ghost use Rattle.bars.specs.Claimed.{claimed};
 ghost use Rattle.keys.specs.Sames.{name-key-octets, slice-name-key-octets, slice-key-octets};
 ghost use Rattle.timers.specs.Parts.{parts-view};
@@ -12,6 +13,7 @@ use super::Timers;
 use crate::parts::KeyParts;
 use backoff::octet::TimerValue;
 use backoff::timer::BackOffTimer;
+use bars::table::PLACES;
 use bars::table::Table;
 use keys::key::Key;
 use keys::key::NameKey;
@@ -156,10 +158,10 @@ fn set_on<K: Key + Copy>(table: &mut Table<K>, key: K, value: TimerValue)
 
 // Whether at most 32 different keys are claimed, by the bars of a table or by others that have these keys.
 fn fits<K: Key + Copy>(table: &Table<K>, keys: &[K]) -> bool
-    ensures { λ r. ⌜ r ≡ leb (claimed (shown (K·Key .octets) (now (table .entry) .places)) (map (K·Key .octets) (now (keys .entry)))) 32 ⌝ }
+    ensures { λ r. ⌜ r ≡ leb (claimed (shown (K·Key .octets) (now (table .entry) .places)) (map (K·Key .octets) (now (keys .entry)))) place-count ⌝ }
 {
     match table.claimed_with(keys) {
-        Some(claimed) => claimed <= 32,
+        Some(claimed) => claimed <= PLACES,
         None => false,
     }
 }

@@ -4,7 +4,9 @@ ghost use mathlib.Core.Path.{_≡_};
 ghost use Prim.Native.Nat.{_<_, _≤_};
 ghost use lib.ListN.{length, drop};
 ghost use Rattle.uplink.specs.Makes.{parsed, size};
+ghost use Rattle.uplink.specs.Sizes.{capacity, longest-message};
 ghost use Rattle.uplink.specs.Waiting.{oldest};
+use super::LINE_LENGTH;
 use super::Line;
 use crate::queue::Uplink;
 use crate::refusal::SendRefusal;
@@ -18,7 +20,7 @@ impl Line {
         ensures { λ r. ⌜ parsed (r .line) (r .count) ≡ [] ⌝ }
     {
         Line {
-            line: [0; 1040],
+            line: [0; LINE_LENGTH],
             used: 0,
             count: 0,
         }
@@ -33,8 +35,8 @@ impl Line {
 
     // Puts a message behind the last one.
     fn push(&mut self, message: &[u8])
-        requires room { ⌜ now self .count < 8 ⌝ }
-        requires short { ⌜ length (now message) ≤ 128 ⌝ }
+        requires room { ⌜ now self .count < capacity ⌝ }
+        requires short { ⌜ length (now message) ≤ longest-message ⌝ }
         ensures { λ _. ⌜ parsed (now (self .exit) .line) (now (self .exit) .count) ≡ parsed (now (self .entry) .line) (now (self .entry) .count) ++ now (message .entry) ∷ [] ⌝ }
     {
         let n = message.len();

@@ -4,8 +4,11 @@ ghost use mathlib.Core.Path.{_≡_};
 ghost use Prim.Native.Nat.{_<_, _≤_};
 ghost use lib.ListN.{length, take, drop, getD};
 ghost use Rattle.uplink.specs.Makes.{shown};
+ghost use Rattle.uplink.specs.Sizes.{capacity, longest-message};
 ghost use Rattle.uplink.specs.Waiting.{oldest};
 use super::Slots;
+use crate::queue::CAPACITY;
+use crate::queue::LONGEST_MESSAGE;
 use crate::queue::Uplink;
 use crate::refusal::SendRefusal;
 use crate::refusal::TakeRefusal;
@@ -18,20 +21,20 @@ impl Slots {
         ensures { λ r. ⌜ take (r .count) (shown (r .slots) (r .lens)) ≡ [] ⌝ }
     {
         Slots {
-            slots: [[0; 128]; 8],
-            lens: [0; 8],
+            slots: [[0; LONGEST_MESSAGE]; CAPACITY],
+            lens: [0; CAPACITY],
             count: 0,
         }
     }
 
     // Puts a message into the first free slot.
     fn push(&mut self, message: &[u8])
-        requires room { ⌜ now self .count < 8 ⌝ }
-        requires short { ⌜ length (now message) ≤ 128 ⌝ }
+        requires room { ⌜ now self .count < capacity ⌝ }
+        requires short { ⌜ length (now message) ≤ longest-message ⌝ }
         ensures { λ _. ⌜ take (now (self .exit) .count) (shown (now (self .exit) .slots) (now (self .exit) .lens)) ≡ take (now (self .entry) .count) (shown (now (self .entry) .slots) (now (self .entry) .lens)) ++ now (message .entry) ∷ [] ⌝ }
     {
         let at = self.count;
-        let mut slot = [0u8; 128];
+        let mut slot = [0u8; LONGEST_MESSAGE];
         slot[0..message.len()].copy_from_slice(message);
         self.slots[at] = slot;
         self.lens[at] = message.len();

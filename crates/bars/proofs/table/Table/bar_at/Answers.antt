@@ -5,8 +5,8 @@ use Rattle.bars.specs.Bars.{bar-octets}
 use Rattle.bars.proofs.Loops.{bar-read, bar-past}
 use Rattle.bars.proofs.table.Table.bar_at.Needs as need
 
-pub returns-then-place-ge32 : need.returns-then-place-ge32
-returns-then-place-ge32 g c = bar-past (g .K·Key .octets) (c .args .self .now .places) (c .args .place) (omega arith)
+pub returns-then-place-ge-PLACES : need.returns-then-place-ge-PLACES
+returns-then-place-ge-PLACES g c = bar-past (g .K·Key .octets) (c .args .self .now .places) (c .args .place) (omega arith)
 
 pub returns : need.returns
 returns g c =
