@@ -1,4 +1,6 @@
 // Back-off timers: the octet by which the network sets one, and the timer itself.
+#![tactic(auto)]
+
 pub mod laws;
 pub mod octet;
 pub mod timer;

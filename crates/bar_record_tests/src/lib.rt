@@ -1,4 +1,6 @@
 // Records of bars: the layout octet by octet, and damaged records.
+#![tactic(auto)]
+
 #[cfg(test)]
 mod tests {
     use bar_record::kept::{KeptBar, KeptKey};

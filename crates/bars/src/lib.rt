@@ -1,4 +1,6 @@
 // Bars: back-off timers on keys, and the table of the bars of one kind.
+#![tactic(auto)]
+
 pub mod bar;
 pub mod claimed;
 pub mod table;

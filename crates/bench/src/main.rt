@@ -1,5 +1,7 @@
 // The bench: reads a script from standard input, one call to a line, and prints the record, each line
 // as it was read with its answer behind it.
+#![tactic(auto)]
+
 mod answer;
 mod command;
 mod messages;

@@ -1,4 +1,6 @@
 // What holds over every uplink and every keeper, proved from their meanings alone.
+#![tactic(auto)]
+
 ghost use Rattle.std.specs.Prelude.{◌≡◌, length};
 ghost use Rattle.devices.specs.Filing.{filed, queue_after, records_after};
 

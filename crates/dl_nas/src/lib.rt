@@ -1,4 +1,6 @@
 // DL NAS TRANSPORT: whatever the network sends is read.
+#![tactic(auto)]
+
 pub mod container;
 pub mod content;
 pub mod elements;

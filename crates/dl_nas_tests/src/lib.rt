@@ -1,4 +1,6 @@
 // Messages of which it is known what they say, and what is wrong with them.
+#![tactic(auto)]
+
 ghost use Rattle.std.specs.Prelude.{◌≡◌, ℕ, ◌+◌, ◌<◌, ◌≤◌, length, slice_set};
 
 #[cfg(test)]

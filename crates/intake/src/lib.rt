@@ -1,4 +1,6 @@
 // What a message of the network does to a switched-on handset: its session, the timers and the tally.
+#![tactic(auto)]
+
 ghost use Rattle.std.specs.Prelude.{◌≡◌, ◌+◌, ◌≤◌, Ok};
 ghost use Rattle.requests.specs.State.{state_view};
 ghost use Rattle.rules.specs.TakingIn.{passed_over, did, taken, after_taken, tally_with};

@@ -1,4 +1,6 @@
 // Records that outlive a switch-off: the trait of their keepers.
+#![tactic(auto)]
+
 ghost use Rattle.std.specs.Prelude.{◌≡◌, ℕ, ◌+◌, ◌<◌, ◌≤◌, List, [], length, slice_index_or};
 ghost use borrow.Rule.Slice.PartMut.{put_mid};
 ghost use Rattle.keeper.specs.Sizes.{record_count, record_length};

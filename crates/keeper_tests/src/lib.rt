@@ -1,4 +1,6 @@
 // Both makes of a keeper through long sequences of calls, compared with each other and with what was written.
+#![tactic(auto)]
+
 #[cfg(test)]
 mod tests {
     use keeper::alike::{KeeperCall, answer_alike};

@@ -1,4 +1,6 @@
 // The kept set of bars: what a switched-off handset keeps of its running timers, and what is restored from it.
+#![tactic(auto)]
+
 pub mod laws;
 pub mod load;
 pub mod store;

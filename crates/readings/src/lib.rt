@@ -1,4 +1,6 @@
 // Time readings: seconds are taken off every timer and every waiting request, identities rising.
+#![tactic(auto)]
+
 ghost use Rattle.std.specs.Prelude.{◌≡◌, ◌+◌, ◌-◌, ◌<◌, ◌≤◌, ◌++◌, length, take, if◌then◌else◌};
 ghost use Rattle.readings.specs.Turns.{expired_so, tally_by, expired_on, turn_answer, turn_waiting, sum_of, all_expired, timers_counted};
 ghost use Rattle.requests.specs.State.{state_view};

@@ -1,4 +1,6 @@
 // The state of a switched-on handset, the questions that a request has to pass, and letting it out.
+#![tactic(auto)]
+
 pub mod decide;
 pub mod let_out;
 pub mod question;

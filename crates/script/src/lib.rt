@@ -1,4 +1,6 @@
 // The script of the bench, as text: words, hexadecimal octets and decimal numbers.
+#![tactic(auto)]
+
 pub mod hex;
 pub mod number;
 pub mod text;

@@ -1,4 +1,6 @@
 // One session of the handset: its state and the decoded message of the network decide together.
+#![tactic(auto)]
+
 pub mod laws;
 pub mod messages;
 pub mod outcome;

@@ -1,4 +1,6 @@
 // Sessions of which it is known what a message, time or a request makes of them.
+#![tactic(auto)]
+
 #[cfg(test)]
 mod tests {
     use backoff::octet::TimerValue;

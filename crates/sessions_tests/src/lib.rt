@@ -1,4 +1,6 @@
 // Tables of sessions of which it is known what they tell.
+#![tactic(auto)]
+
 #[cfg(test)]
 mod tests {
     use dl_nas::message::{Content, Received};

@@ -1,4 +1,6 @@
 // Uplink messages of which it is known how they are written and read.
+#![tactic(auto)]
+
 #[cfg(test)]
 mod tests {
     use std::process::Abort;

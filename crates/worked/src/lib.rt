@@ -1,4 +1,6 @@
 // The eight worked cases, together the contract of one function.
+#![tactic(auto)]
+
 ghost use Rattle.worked.specs.Cases.{WorkedCases};
 
 // What the rules give in each of the eight cases.
