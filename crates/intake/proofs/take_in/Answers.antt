@@ -14,21 +14,21 @@ use Rattle.requests.proofs.Thinning.{differ_thinner, lawful_thinner}
 use Rattle.intake.proofs.Kept.{total, out_with, thinner, claims_taken, sums_taken}
 use Rattle.intake.proofs.take_in.Goals as goal
 
-pub invariant-of-state : goal.invariant-of-state
-invariant-of-state c =
+pub invariant_of-state : goal.invariant_of-state
+invariant_of-state c =
     let state = c.args.state.now in
     let s = state_view state in
     let m = c.args.message.now in
     let i = m.identity in
     let v = session_view c.in-Some.session in
     let is : session_of i s.sessions ≡ Some v = sym c.in-Some.ensures in
-    let answer = c.answer-on-answer.ensures in
-    let sessions = c.take-in.ensures.after in
+    let answer = c.answer_on-answer.ensures in
+    let sessions = c.take_in.ensures.after in
     let timers : timers_view c.apply.new.self ≡ ruled (timer_rule v.request_type m (outcome_of v m).took_effect) (session_parts v) s.timers =
-    c.apply.ensures ∙ ap (λ a. ruled a.rule (parts_view c.of-session.result) s.timers) answer
-    ∙ ap (λ k. ruled (timer_rule v.request_type m (outcome_of v m).took_effect) k s.timers) c.of-session.ensures in
-    let tally : c.tally-with-state.result ≡ tally_with (outcome_of v m).ended s.tally = c.tally-with-state.ensures ∙ ap (λ a. tally_with a.ended s.tally) answer in
-    let out : c.tally-with-state.result.let_out ≡ s.tally.let_out = ap (λ x. x.let_out) tally ∙ out_with (outcome_of v m).ended s.tally in
+    c.apply.ensures ∙ ap (λ a. ruled a.rule (parts_view c.of_session.result) s.timers) answer
+    ∙ ap (λ k. ruled (timer_rule v.request_type m (outcome_of v m).took_effect) k s.timers) c.of_session.ensures in
+    let tally : c.tally_with-state.result ≡ tally_with (outcome_of v m).ended s.tally = c.tally_with-state.ensures ∙ ap (λ a. tally_with a.ended s.tally) answer in
+    let out : c.tally_with-state.result.let_out ≡ s.tally.let_out = ap (λ x. x.let_out) tally ∙ out_with (outcome_of v m).ended s.tally in
     let few = state.few in (
       ap (λ x. all_differ (waiting_ptis x)) sessions ∙ differ_thinner i s.sessions v (λ x. taken_in x m) is (thinner v m) state.differ,
       (
@@ -41,7 +41,7 @@ invariant-of-state c =
             (
               ap (λ x. x.let_out) tally ∙ sums_taken i s.sessions v m s.tally is state.sums
                   ∙ ap (λ x. total x + pending (changed i (λ y. taken_in y m) s.sessions)) (sym tally)
-                  ∙ ap (λ y. total c.tally-with-state.result + pending y) (sym sessions),
+                  ∙ ap (λ y. total c.tally_with-state.result + pending y) (sym sessions),
               tt,
             ),
           ),

@@ -4,8 +4,8 @@ use Rattle.requests.specs.State.{state_view}
 use Rattle.readings.proofs.Counting.{claims_counted}
 use Rattle.readings.proofs.count_timers.Goals as goal
 
-pub invariant-of-state : goal.invariant-of-state
-invariant-of-state c =
+pub invariant_of-state : goal.invariant_of-state
+invariant_of-state c =
     let state = c.args.state.now in
     let s = state_view state in (
       state.differ,

@@ -7,13 +7,13 @@ use Rattle.readings.specs.Turns.{tally_by}
 use Rattle.readings.proofs.Expiring.{expired_sound, sound_at}
 use Rattle.readings.proofs.expire.Goals as goal
 
-pub invariant-of-state : goal.invariant-of-state
-invariant-of-state c =
+pub invariant_of-state : goal.invariant_of-state
+invariant_of-state c =
     let state = c.args.state.now in
     let s = state_view state in
     let i = c.args.identity in
     let seconds = c.args.seconds in
     sound_at (changed i (counted_session seconds) s.sessions) (sessions_view c.count-expiry.new.self) s.timers s.timers
-    (tally_by (expiry_of seconds (session_of i s.sessions)) s.tally) c.tally-by-state.result
-    c.count-expiry.ensures.after refl (c.tally-by-state.ensures ∙ ap (λ e. tally_by e s.tally) c.count-expiry.ensures.answer)
+    (tally_by (expiry_of seconds (session_of i s.sessions)) s.tally) c.tally_by-state.result
+    c.count-expiry.ensures.after refl (c.tally_by-state.ensures ∙ ap (λ e. tally_by e s.tally) c.count-expiry.ensures.answer)
     (expired_sound i seconds s.sessions s.timers s.tally (record { differ = state.differ; lawful = state.lawful; claims = state.claims; few = state.few; sums = state.sums }))

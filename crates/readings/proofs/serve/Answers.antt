@@ -20,10 +20,10 @@ returns-in-Repeat g c =
     let message = ap (waiting_message i) state ∙ r.after in
     record {
       answer =
-          c.repeat-told.ensures ∙ ap (λ b. cond b (expired_so 1 0 0) (expired_so 0 1 0)) (c.send-pending.ensures.answer ∙ ap (λ m. sends m (length waiting)) message)
+          c.repeat_told.ensures ∙ ap (λ b. cond b (expired_so 1 0 0) (expired_so 0 1 0)) (c.send_pending.ensures.answer ∙ ap (λ m. sends m (length waiting)) message)
           ∙ ap (λ e. turn_answer e (length waiting)) (sym told);
       state = state;
       queue =
-          c.send-pending.ensures.queue ∙ ap (λ m. with_message m waiting) (message ∙ sym r.before)
+          c.send_pending.ensures.queue ∙ ap (λ m. with_message m waiting) (message ∙ sym r.before)
           ∙ ap (λ e. turn_waiting e i (session_of i s.sessions) waiting) (sym told);
     }

@@ -7,8 +7,8 @@ use Rattle.sessions.specs.Table.{session_of}
 use Rattle.readings.proofs.Serving.{Turned, turned_none, turn_at, counts_fit, all_served}
 use Rattle.readings.proofs.serve_all.Goals as goal
 
-pub sum-of-answer-requires : goal.sum-of-answer-requires
-sum-of-answer-requires g c =
+pub sum_of-answer-requires : goal.sum_of-answer-requires
+sum_of-answer-requires g c =
     let state = c.args.state.now in
     let full = length-map state.sessions.records session_view ∙ state.sessions.full in
     let less : c.loop-place.place < 15 = omega arith in
@@ -30,7 +30,7 @@ loop-place-preserved g c =
     let full = length-map state.sessions.records session_view ∙ state.sessions.full in
     let less : c.loop-place.place < 15 = omega arith in
     subst (Turned c.args.seconds s w (take (c.loop-place.place + 1) s.sessions) (drop (c.loop-place.place + 1) s.sessions) (state_view c.serve-turn.new.state) (g.U.Uplink.waiting c.serve-turn.new.uplink))
-    (sym c.sum-of-answer.ensures)
+    (sym c.sum_of-answer.ensures)
     (turn_at c.args.seconds c.loop-place.place s w (state_view c.loop-place.state) (g.U.Uplink.waiting c.loop-place.uplink) c.loop-place.answer
     (state_view c.serve-turn.new.state) (g.U.Uplink.waiting c.serve-turn.new.uplink) c.serve-turn.result full less c.loop-place.invariant
     c.serve-turn.ensures.answer c.serve-turn.ensures.state c.serve-turn.ensures.queue)

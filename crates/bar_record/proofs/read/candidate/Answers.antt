@@ -4,22 +4,22 @@ use Rattle.bar_record.proofs.Rebuilt.{kind_is, slice_length_is, name_length_is, 
 use Rattle.bar_record.proofs.Standing.{inner, not_none}
 use Rattle.bar_record.proofs.read.candidate.Goals as goal
 
-pub returns-in-err-slice : goal.returns-in-err-slice
-returns-in-err-slice c = λ v law is.
+pub returns-in_err-slice : goal.returns-in_err-slice
+returns-in_err-slice c = λ v law is.
     let rec = c.args.record.now in
-    absurd (not_none (c.in-err-slice.ensures v.key.slice (slice_is_held v rec is law) (slice_length_is v rec is law) (slice_stands v rec is law)))
+    absurd (not_none (c.in_err-slice.ensures v.key.slice (slice_is_held v rec is law) (slice_length_is v rec is law) (slice_stands v rec is law)))
 
-pub returns-in-err-name : goal.returns-in-err-name
-returns-in-err-name c = λ v law is.
+pub returns-in_err-name : goal.returns-in_err-name
+returns-in_err-name c = λ v law is.
     let rec = c.args.record.now in
-    absurd (not_none (c.in-err-name.ensures v.key.name (name_is_short v rec is law) (name_length_is v rec is law) (name_stands v rec is law)))
+    absurd (not_none (c.in_err-name.ensures v.key.name (name_is_short v rec is law) (name_length_is v rec is law) (name_stands v rec is law)))
 
 pub returns : goal.returns
 returns c = λ v law is.
     let rec = c.args.record.now in
-    rebuilt v rec is law (get_or rec 0 0) c.network-in.result c.in-ok-slice.slice c.in-ok-name.name c.seconds_in.result (Some c.in-ok-key.key)
-    (kind_is v rec is law) c.in-ok-key.ensures
-    (λ three. c.network-in.ensures v.key.network three (network_stands v rec is law))
-    (inner (c.in-ok-slice.ensures v.key.slice (slice_is_held v rec is law) (slice_length_is v rec is law) (slice_stands v rec is law)))
-    (inner (c.in-ok-name.ensures v.key.name (name_is_short v rec is law) (name_length_is v rec is law) (name_stands v rec is law)))
+    rebuilt v rec is law (get_or rec 0 0) c.network_in.result c.in_ok-slice.slice c.in_ok-name.name c.seconds_in.result (Some c.in_ok-key.key)
+    (kind_is v rec is law) c.in_ok-key.ensures
+    (λ three. c.network_in.ensures v.key.network three (network_stands v rec is law))
+    (inner (c.in_ok-slice.ensures v.key.slice (slice_is_held v rec is law) (slice_length_is v rec is law) (slice_stands v rec is law)))
+    (inner (c.in_ok-name.ensures v.key.name (name_is_short v rec is law) (name_length_is v rec is law) (name_stands v rec is law)))
     (c.seconds_in.ensures v.seconds (seconds_fit v rec is law) (seconds_stand v rec is law))

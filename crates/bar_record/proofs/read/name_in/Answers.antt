@@ -14,4 +14,4 @@ pub returns : goal.returns
 returns c = λ xs held len stands.
     let same = stood c.args.record.now xs 14 _ (omega arith) (omega arith) stands in
     let lawful : name_length (length xs) ≡ true = grind (arith, nat_tests) in
-    c.name-of.ensures (ap (λ ys. name_length (length ys)) same ∙ lawful) ∙ ap (λ ys. Some ys) same
+    c.name_of.ensures (ap (λ ys. name_length (length ys)) same ∙ lawful) ∙ ap (λ ys. Some ys) same

@@ -14,4 +14,4 @@ pub returns : goal.returns
 returns c = λ xs held len stands.
     let same = stood c.args.record.now xs 5 _ (omega arith) (omega arith) stands in
     let lawful : slice_length (length xs) ≡ true = grind (arith, nat_tests) in
-    c.slice-of.ensures (ap (λ ys. slice_length (length ys)) same ∙ lawful) ∙ ap (λ ys. Some ys) same
+    c.slice_of.ensures (ap (λ ys. slice_length (length ys)) same ∙ lawful) ∙ ap (λ ys. Some ys) same

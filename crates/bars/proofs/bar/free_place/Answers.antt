@@ -3,16 +3,16 @@ use Rattle.std.proofs.lemmas.List.Sums.{prefix_len-drop_yes, prefix_len-drop_no,
 use Rattle.bars.specs.Bars.{stands}
 use Rattle.bars.proofs.bar.free_place.Goals as goal
 
-pub returns-then-not-is-standing : goal.returns-then-not-is-standing
-returns-then-not-is-standing g c =
+pub returns-then-not-is_standing : goal.returns-then-not-is_standing
+returns-then-not-is_standing g c =
     let p = ap (λ b. stands b.timer) (sym c.index-bars-i.is) in
-    let e = prefix_len-drop_no (λ b. stands b.timer) c.args.bars.now c.loop-i.i c.index-bars-i.result c.loop-i-test.true (p ∙ sym c.is-standing.ensures ∙ c.if-not-is-standing.true) in
+    let e = prefix_len-drop_no (λ b. stands b.timer) c.args.bars.now c.loop-i.i c.index-bars-i.result c.loop-i-test.true (p ∙ sym c.is_standing.ensures ∙ c.if-not-is_standing.true) in
     omega (arith, c.loop-i.invariant)
 
 pub loop-i-preserved : goal.loop-i-preserved
 loop-i-preserved g c =
     let p = ap (λ b. stands b.timer) (sym c.index-bars-i.is) in
-    let e = prefix_len-drop_yes (λ b. stands b.timer) c.args.bars.now c.loop-i.i c.index-bars-i.result c.loop-i-test.true (p ∙ sym c.is-standing.ensures ∙ c.if-not-is-standing.false) in
+    let e = prefix_len-drop_yes (λ b. stands b.timer) c.args.bars.now c.loop-i.i c.index-bars-i.result c.loop-i-test.true (p ∙ sym c.is_standing.ensures ∙ c.if-not-is_standing.false) in
     omega (arith, c.loop-i.invariant)
 
 pub returns : goal.returns

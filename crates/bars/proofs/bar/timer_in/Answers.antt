@@ -4,16 +4,16 @@ use Rattle.bars.specs.Bars.{shown, timer_on}
 use Rattle.bars.proofs.Loops.{timer_yes, timer_no}
 use Rattle.bars.proofs.bar.timer_in.Goals as goal
 
-pub returns-then-is-on : goal.returns-then-is-on
-returns-then-is-on g c =
+pub returns-then-is_on : goal.returns-then-is_on
+returns-then-is_on g c =
     let octets = g.K.Key.octets in
-    sym (timer_yes octets (octets c.args.key.now) c.args.bars.now c.loop-bar.bar-index _ c.loop-bar-test.true c.bar-item.is (sym c.is-on.ensures ∙ c.if-is-on.true))
+    sym (timer_yes octets (octets c.args.key.now) c.args.bars.now c.loop-bar.bar-index _ c.loop-bar-test.true c.bar-item.is (sym c.is_on.ensures ∙ c.if-is_on.true))
     ∙ c.loop-bar.invariant
 
 pub loop-bar-preserved : goal.loop-bar-preserved
 loop-bar-preserved g c =
     let octets = g.K.Key.octets in
-    sym (timer_no octets (octets c.args.key.now) c.args.bars.now c.loop-bar.bar-index _ c.loop-bar-test.true c.bar-item.is (sym c.is-on.ensures ∙ c.if-is-on.false))
+    sym (timer_no octets (octets c.args.key.now) c.args.bars.now c.loop-bar.bar-index _ c.loop-bar-test.true c.bar-item.is (sym c.is_on.ensures ∙ c.if-is_on.false))
     ∙ c.loop-bar.invariant
 
 pub returns : goal.returns

@@ -3,7 +3,7 @@ use Rattle.std.proofs.lemmas.List.{take_rest, at_drop_all}
 use Rattle.bars.specs.Claimed.{among, distinct}
 use Rattle.bars.proofs.Distincts.{distinct_step}
 use Rattle.bars.proofs.claimed.distinct_in.Goals as goal
-use Rattle.bars.proofs.claimed.distinct_in.Goals.{then-not-is-among, else-not-is-among}
+use Rattle.bars.proofs.claimed.distinct_in.Goals.{then-not-is_among, else-not-is_among}
 
 pub loop-i-preserved : goal.loop-i-preserved
 loop-i-preserved g c =
@@ -12,8 +12,8 @@ loop-i-preserved g c =
     let i = c.loop-i.i in
     let x = c.index-keys-i.result in
     let step = distinct_step octets xs i x c.loop-i-test.true c.index-keys-i.is in
-    let told : c.is-among.result ≡ among (octets x) (map octets (drop (i + 1) xs)) = c.is-among.ensures ∙ ap (λ ys. among (octets x) (map octets ys)) (take_rest xs (i + 1)) in
-    elim c.if-not-is-among.branch [ then-not-is-among w ↦ grind arith | else-not-is-among w ↦ grind arith ]
+    let told : c.is_among.result ≡ among (octets x) (map octets (drop (i + 1) xs)) = c.is_among.ensures ∙ ap (λ ys. among (octets x) (map octets ys)) (take_rest xs (i + 1)) in
+    elim c.if-not-is_among.branch [ then-not-is_among w ↦ grind arith | else-not-is_among w ↦ grind arith ]
 
 pub returns : goal.returns
 returns g c =

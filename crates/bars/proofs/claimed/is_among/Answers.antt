@@ -4,8 +4,8 @@ use Rattle.bars.specs.Claimed.{among}
 use Rattle.bars.proofs.Distincts.{among_step}
 use Rattle.bars.proofs.claimed.is_among.Goals as goal
 
-pub returns-then-is-same : goal.returns-then-is-same
-returns-then-is-same g c =
+pub returns-then-is_same : goal.returns-then-is_same
+returns-then-is_same g c =
     let octets = g.K.Key.octets in
     let step = among_step octets c.args.keys.now c.loop-other.other-index (octets c.args.key.now) c.other-item.result c.loop-other-test.true c.other-item.is in
     let same = g.met.K.Key.spelled c.args.key.now c.other-item.result in

@@ -4,8 +4,8 @@ use Rattle.bars.specs.Claimed.{keys_of}
 use Rattle.bars.proofs.Distincts.{among_standing, among_append}
 use Rattle.bars.proofs.claimed.is_claimed.Goals as goal
 
-pub returns-then-is-standing : goal.returns-then-is-standing
-returns-then-is-standing g c =
+pub returns-then-is_standing : goal.returns-then-is_standing
+returns-then-is_standing g c =
     let octets = g.K.Key.octets in
     let k = octets c.args.key.now in
     let bs = shown octets c.args.bars.now in
@@ -13,8 +13,8 @@ returns-then-is-standing g c =
     let bar = among_standing k bs in
     grind arith
 
-pub returns-else-is-standing : goal.returns-else-is-standing
-returns-else-is-standing g c =
+pub returns-else-is_standing : goal.returns-else-is_standing
+returns-else-is_standing g c =
     let octets = g.K.Key.octets in
     let k = octets c.args.key.now in
     let bs = shown octets c.args.bars.now in

@@ -4,7 +4,7 @@ use Rattle.bars.specs.Bars.{shown, stands}
 use Rattle.bars.specs.Claimed.{among, claimed_keys, claimed}
 use Rattle.bars.proofs.Distincts.{claimed_step}
 use Rattle.bars.proofs.claimed.last_in.Goals as goal
-use Rattle.bars.proofs.claimed.last_in.Goals.{then-is-last, else-is-last}
+use Rattle.bars.proofs.claimed.last_in.Goals.{then-is_last, else-is_last}
 
 pub loop-i-preserved : goal.loop-i-preserved
 loop-i-preserved g c =
@@ -14,9 +14,9 @@ loop-i-preserved g c =
     let i = c.loop-i.i in
     let b = c.index-bars-i.result in
     let step = claimed_step octets xs i b ks c.loop-i-test.true c.index-bars-i.is in
-    let told : c.is-last.result ≡ (stands b.timer && not (among (octets b.key) (claimed_keys (shown octets (drop (i + 1) xs)) ks))) =
-    c.is-last.ensures ∙ ap (λ ys. stands b.timer && not (among (octets b.key) (claimed_keys (shown octets ys) ks))) (take_rest xs (i + 1)) in
-    elim c.if-is-last.branch [ then-is-last w ↦ grind arith | else-is-last w ↦ grind arith ]
+    let told : c.is_last.result ≡ (stands b.timer && not (among (octets b.key) (claimed_keys (shown octets (drop (i + 1) xs)) ks))) =
+    c.is_last.ensures ∙ ap (λ ys. stands b.timer && not (among (octets b.key) (claimed_keys (shown octets ys) ks))) (take_rest xs (i + 1)) in
+    elim c.if-is_last.branch [ then-is_last w ↦ grind arith | else-is_last w ↦ grind arith ]
 
 pub returns : goal.returns
 returns g c =

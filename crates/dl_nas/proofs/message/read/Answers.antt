@@ -3,5 +3,5 @@ use Rattle.dl_nas.proofs.message.read.Goals as goal
 
 pub returns : goal.returns
 returns c =
-    let e = c.read-layers.ensures in
-    record { answer = e; format = accepts_format c.args.message.now c.read-layers.result e }
+    let e = c.read_layers.ensures in
+    record { answer = e; format = accepts_format c.args.message.now c.read_layers.result e }

@@ -13,7 +13,7 @@ loop-i-preserved g c =
     let b = g.B.Keeper.records in
     let calls = c.args.calls.now in
     let l = subst (λ cs. Left (a c.args.one.now) (b c.args.other.now) (map asked calls) (a c.loop-i.one) (b c.loop-i.other) (map asked cs) c.loop-i.same) (drop_more calls c.loop-i.i _ c.loop-i-test.true) c.loop-i.invariant in
-    let e = c.still-alike-same.ensures in
+    let e = c.still_alike-same.ensures in
     left_more _ _ _ _ _ _ _ _ (map asked (drop (c.loop-i.i + 1) calls)) _ _ l e.one e.other e.answer
 
 pub returns : goal.returns

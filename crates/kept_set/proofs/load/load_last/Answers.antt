@@ -16,16 +16,16 @@ loop-number-preserved g c =
     let count = g.met.K.Keeper.count c.args.keeper.now in
     let long : trailer_number < length records = omega arith in
     let t = timers_view c.loop-number.timers in
-    let read = c.in-ok-timers.ensures ∙ ap (λ r. with_record (told r) t) c.record-at.ensures in
-    loaded_more records c.loop-number.number t long c.loop-number-test.true (timers_view c.in-ok-timers.timers) read ∙ c.loop-number.invariant
+    let read = c.in_ok-timers.ensures ∙ ap (λ r. with_record (told r) t) c.record_at.ensures in
+    loaded_more records c.loop-number.number t long c.loop-number-test.true (timers_view c.in_ok-timers.timers) read ∙ c.loop-number.invariant
 
-pub returns-in-err-timers : goal.returns-in-err-timers
-returns-in-err-timers g c =
+pub returns-in_err-timers : goal.returns-in_err-timers
+returns-in_err-timers g c =
     let records = g.K.Keeper.records c.args.keeper.now in
     let count = g.met.K.Keeper.count c.args.keeper.now in
     let long : trailer_number < length records = omega arith in
     let t = timers_view c.loop-number.timers in
-    let read = c.in-err-timers.ensures ∙ ap (λ r. with_record (told r) t) c.record-at.ensures in
+    let read = c.in_err-timers.ensures ∙ ap (λ r. with_record (told r) t) c.record_at.ensures in
     ap (option_map timers_view) c.from-residual.ensures ∙ loaded_not records c.loop-number.number t long c.loop-number-test.true read ∙ c.loop-number.invariant
 
 pub returns : goal.returns

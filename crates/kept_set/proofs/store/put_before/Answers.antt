@@ -8,5 +8,5 @@ pub returns-in-Some : goal.returns-in-Some
 returns-in-Some g c =
     let v = kept_view c.in-Some.bar in
     let number : c.args.first - 1 < record_count = omega arith in
-    let put = c.write.ensures.records ∙ record_written (g.K.Keeper.records c.args.keeper.now) (c.args.first - 1) c.record-of.result (written v) number c.record-of.ensures (written_length v) in
+    let put = c.write.ensures.records ∙ record_written (g.K.Keeper.records c.args.keeper.now) (c.args.first - 1) c.record_of.result (written v) number c.record_of.ensures (written_length v) in
     rw c.in-Some.is (record { answer = refl; records = put })

@@ -9,8 +9,8 @@ pub returns : goal.returns
 returns g c =
     let card = c.args.card.now.octets in
     let old = g.K.Keeper.records c.args.keeper.now in
-    let records = g.K.Keeper.records c.store-bars-n.new.keeper in
-    let e = c.store-bars-n.ensures in
-    let put = record_written records trailer_number c.trailer-of.result (trailer card (trailer_number - c.store-bars-n.result)) (omega arith) c.trailer-of.ensures (trailer_length card (trailer_number - c.store-bars-n.result) c.args.card.now.full) in
-    let all = all_stored old records card (kept_bars (timers_view c.args.timers.now)) c.store-bars-n.result (trailer_number - c.store-bars-n.result) (g.met.K.Keeper.count c.args.keeper.now) e.first (omega arith) e.records in
+    let records = g.K.Keeper.records c.store_bars-n.new.keeper in
+    let e = c.store_bars-n.ensures in
+    let put = record_written records trailer_number c.trailer_of.result (trailer card (trailer_number - c.store_bars-n.result)) (omega arith) c.trailer_of.ensures (trailer_length card (trailer_number - c.store_bars-n.result) c.args.card.now.full) in
+    let all = all_stored old records card (kept_bars (timers_view c.args.timers.now)) c.store_bars-n.result (trailer_number - c.store_bars-n.result) (g.met.K.Keeper.count c.args.keeper.now) e.first (omega arith) e.records in
     record { answer = all.0; records = c.write.ensures.records ∙ put ∙ all.1 }

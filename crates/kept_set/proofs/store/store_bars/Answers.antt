@@ -17,17 +17,17 @@ loop-place-init g c =
     let size = full t in
     put_none (g.K.Keeper.records c.args.keeper.now) (kept_places (timers_view t)) 96 (omega arith)
 
-pub put-before-first-requires : goal.put-before-first-requires
-put-before-first-requires g c =
+pub put_before-first-requires : goal.put_before-first-requires
+put_before-first-requires g c =
     let t = c.args.timers.now in
     let old = g.K.Keeper.records c.args.keeper.now in
     let count = g.met.K.Keeper.count c.args.keeper.now in
     let inv = c.loop-place.invariant in
     let n = inv.count in
     record {
-      first = put_room old (kept_places (timers_view t)) (full t) (omega arith) c.loop-place.place c.loop-place.first (g.K.Keeper.records c.loop-place.keeper) (omega arith) (omega arith) inv c.running-at.result c.running-at.ensures.view;
+      first = put_room old (kept_places (timers_view t)) (full t) (omega arith) c.loop-place.place c.loop-place.first (g.K.Keeper.records c.loop-place.keeper) (omega arith) (omega arith) inv c.running_at.result c.running_at.ensures.view;
       last = omega arith;
-      seconds = c.running-at.ensures.seconds;
+      seconds = c.running_at.ensures.seconds;
     }
 
 pub loop-place-preserved : goal.loop-place-preserved
@@ -35,10 +35,10 @@ loop-place-preserved g c =
     let t = c.args.timers.now in
     let old = g.K.Keeper.records c.args.keeper.now in
     let count = g.met.K.Keeper.count c.args.keeper.now in
-    let e = c.put-before-first.ensures in
-    let there = c.running-at.ensures.view in
+    let e = c.put_before-first.ensures in
+    let there = c.running_at.ensures.view in
     put_more old (kept_places (timers_view t)) (full t) (omega arith) c.loop-place.place c.loop-place.first (g.K.Keeper.records c.loop-place.keeper) (omega arith) (omega arith) c.loop-place.invariant
-    c.put-before-first.result (g.K.Keeper.records c.put-before-first.new.keeper)
+    c.put_before-first.result (g.K.Keeper.records c.put_before-first.new.keeper)
     (e.answer ∙ ap (λ o. number_before o c.loop-place.first) there)
     (e.records ∙ ap (λ o. put_before o c.loop-place.first (g.K.Keeper.records c.loop-place.keeper)) there)
 

@@ -4,4 +4,4 @@ use Rattle.kept_set.proofs.store.trailer_of.Goals as goal
 
 pub returns : goal.returns
 returns c =
-    trailer_made c.args.card.now.octets c.copy-from-slice.new.self c.args.n (c.copy-from-slice.ensures.after ∙ c.octets.ensures.value) c.args.card.now.full
+    trailer_made c.args.card.now.octets c.copy_from_slice.new.self c.args.n (c.copy_from_slice.ensures.after ∙ c.octets.ensures.value) c.args.card.now.full

@@ -23,7 +23,7 @@ returns g c =
     let start : ◌≡◌ {A = Handset} (record { state = None; waiting = g.U.Uplink.waiting c.commission.result.uplink; records = g.K.Keeper.records c.commission.result.keeper }) (record { state = None; waiting = waiting; records = commissioned records }) = ap (λ w. record { state = None; waiting = w; records = g.K.Keeper.records c.commission.result.keeper }) uplink ∙ ap (λ r. record { state = None; waiting = waiting; records = r }) c.commission.ensures.records in
     record {
       enough = (let room : length (map said c.args.script.now) ≤ length c.args.answers.now = omega arith in room);
-      answers = c.perform-all.ensures.answers ∙ ap (λ h. filled (goes_on h script).replies (length c.args.script.now) before) start ∙ ap (λ k. filled (goes_on (record { state = None; waiting = waiting; records = commissioned records }) script).replies k before) (sym n);
-      handset_is = c.perform-all.ensures.handset ∙ ap (λ h. (goes_on h script).handset) start;
+      answers = c.perform_all.ensures.answers ∙ ap (λ h. filled (goes_on h script).replies (length c.args.script.now) before) start ∙ ap (λ k. filled (goes_on (record { state = None; waiting = waiting; records = commissioned records }) script).replies k before) (sym n);
+      handset_is = c.perform_all.ensures.handset ∙ ap (λ h. (goes_on h script).handset) start;
       law = every_life script waiting records (g.met.U.Uplink.few c.args.uplink) (g.met.K.Keeper.count c.args.keeper);
     }

@@ -5,7 +5,7 @@ use Rattle.life.proofs.Looks.{look_still}
 use Rattle.life.proofs.perform.answer_on.Goals as goal
 
 pub returns-in-TimeReading : goal.returns-in-TimeReading
-returns-in-TimeReading g c = rw c.in-TimeReading.is (record { answer = c.read-clock.ensures.answer; after = c.read-clock.ensures.after })
+returns-in-TimeReading g c = rw c.in-TimeReading.is (record { answer = c.read_clock.ensures.answer; after = c.read_clock.ensures.after })
 
 pub returns-in-Look : goal.returns-in-Look
 returns-in-Look g c =

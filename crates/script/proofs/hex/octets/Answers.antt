@@ -7,4 +7,4 @@ pub loop-rest-preserved : goal.loop-rest-preserved
 loop-rest-preserved c =
     let rest = c.loop-rest.rest.now in
     octet_more c.args.word.now rest (vec_items c.loop-rest.found) (vec_items c.push.new.self) _ c.in-Some.octet
-    (search rules) c.loop-rest.invariant c.in-Some.ensures c.in-ok-push.ensures.items (take_rest rest 2)
+    (search rules) c.loop-rest.invariant c.in-Some.ensures c.in_ok-push.ensures.items (take_rest rest 2)

@@ -7,6 +7,6 @@ use Rattle.script.proofs.text.behind_word.Goals as goal
 
 pub returns : goal.returns
 returns c =
-    let begun = c.skip-blanks-begun.result.now in
-    take_rest begun c.run-length.result ∙ ap (λ n. drop n begun) c.run-length.ensures.count
-    ∙ ap (λ xs. drop (prefix_len (in_run Word) xs) xs) c.skip-blanks-begun.ensures
+    let begun = c.skip_blanks-begun.result.now in
+    take_rest begun c.run_length.result ∙ ap (λ n. drop n begun) c.run_length.ensures.count
+    ∙ ap (λ xs. drop (prefix_len (in_run Word) xs) xs) c.skip_blanks-begun.ensures

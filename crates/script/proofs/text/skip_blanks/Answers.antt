@@ -5,4 +5,4 @@ use Rattle.script.proofs.text.skip_blanks.Goals as goal
 pub returns : goal.returns
 returns c =
     let line = c.args.line.now in
-    take_rest line c.run-length.result ∙ ap (λ n. drop n line) c.run-length.ensures.count
+    take_rest line c.run_length.result ∙ ap (λ n. drop n line) c.run_length.ensures.count

@@ -7,4 +7,4 @@ returns-then-octet-lt128 c = sym (cond-false (leb 0x80 c.args.octet) _ _ (lt-leb
 
 pub returns : goal.returns
 returns c =
-    c.from-number.ensures ∙ sym (cond-true (leb 0x80 c.args.octet) _ _ (le-leb 0x80 c.args.octet c.if-octet-lt128.false))
+    c.from_number.ensures ∙ sym (cond-true (leb 0x80 c.args.octet) _ _ (le-leb 0x80 c.args.octet c.if-octet-lt128.false))

@@ -7,8 +7,8 @@ use Rattle.ul_nas.specs.Format.{optional, elements}
 use Rattle.ul_nas.proofs.Fits.{elements_fit}
 use Rattle.ul_nas.proofs.write.put_elements.Goals as goal
 
-pub put-request-requires : goal.put-request-requires
-put-request-requires c =
+pub put_request-requires : goal.put_request-requires
+put_request-requires c =
     let e = c.in-EstablishmentRequest.request in
     let s = option_map (λ x. x.now) e.slice in
     let n = option_map (λ x. x.now) e.name in

@@ -12,11 +12,11 @@ returns c =
     let T : List ℕ = c.octet.result ∷ [] in
     let S = optional 0x22 (option_map (λ x. x.now) c.args.request.slice) in
     let N = optional 0x25 (option_map (λ x. x.now) c.args.request.name) in
-    let a = over_more T S out c.put-at.new.out c.put-optional-at.new.out c.put-at.result _
-    c.put-at.ensures.count c.put-at.ensures.after refl c.put-optional-at.ensures.after in
-    let at : c.put-at.result + c.put-optional-at.result ≡ length (T ++ S) = omega (arith, length-append T S) in
-    let b = over_more (T ++ S) N out _ c.put-optional-at-2.new.out (c.put-at.result + c.put-optional-at.result) _
-    at a refl c.put-optional-at-2.ensures.after in
+    let a = over_more T S out c.put-at.new.out c.put_optional-at.new.out c.put-at.result _
+    c.put-at.ensures.count c.put-at.ensures.after refl c.put_optional-at.ensures.after in
+    let at : c.put-at.result + c.put_optional-at.result ≡ length (T ++ S) = omega (arith, length-append T S) in
+    let b = over_more (T ++ S) N out _ c.put_optional-at-2.new.out (c.put-at.result + c.put_optional-at.result) _
+    at a refl c.put_optional-at-2.ensures.after in
     record {
       after = b ∙ ap (λ l. over l out) (append_assoc T S N ∙ ap (λ t. t ∷ (S ++ N)) c.octet.ensures);
       count = omega (arith, length-append S N);

@@ -4,10 +4,10 @@ use Rattle.ul_nas.proofs.write.write.Goals as goal
 
 pub returns : goal.returns
 returns c =
-    let e = c.write-message.ensures in
+    let e = c.write_message.ensures in
     record {
       answer = e.answer;
       buffer = e.buffer;
-      back = reads_back (viewed c.args.message.now) c.args.out.now _ c.write-message.result e.answer e.buffer;
+      back = reads_back (viewed c.args.message.now) c.args.out.now _ c.write_message.result e.answer e.buffer;
       law = round_trip;
     }

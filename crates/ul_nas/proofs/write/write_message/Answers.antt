@@ -14,9 +14,9 @@ returns c =
     let F = frame m.identity m.pti (carried m.content) in
     let E = elements (carried m.content) in
     let law : lawful (viewed m) ≡ true = search rules in
-    let front : c.put-frame-at.result ≡ length F = c.put-frame-at.ensures.count ∙ sym (frame_length m.identity m.pti (carried m.content)) in
+    let front : c.put_frame-at.result ≡ length F = c.put_frame-at.ensures.count ∙ sym (frame_length m.identity m.pti (carried m.content)) in
     record {
       answer = accepted (viewed m) (length c.args.out.now) _ law (omega arith) (omega (arith, length-append F E));
-      buffer = over_more F E c.args.out.now c.put-frame-at.new.out c.put-elements.new.out c.put-frame-at.result _
-          front c.put-frame-at.ensures.after refl c.put-elements.ensures.after;
+      buffer = over_more F E c.args.out.now c.put_frame-at.new.out c.put_elements.new.out c.put_frame-at.result _
+          front c.put_frame-at.ensures.after refl c.put_elements.ensures.after;
     }

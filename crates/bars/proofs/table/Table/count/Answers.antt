@@ -11,5 +11,5 @@ returns g c =
     let octets = g.K.Key.octets in
     let bs = c.args.self.now.places in
     let seconds = c.args.seconds in
-    let e = ap (shown octets) c.count-all.ensures.after ∙ shown_retimed octets (λ _ t. counted seconds t) bs in
+    let e = ap (shown octets) c.count_all.ensures.after ∙ shown_retimed octets (λ _ t. counted seconds t) bs in
     record { after = e; law = subst (Counts seconds (shown octets bs)) (sym e) (counts seconds (shown octets bs)) }

@@ -10,9 +10,9 @@ returns g c =
     let k = octets c.args.key in
     let t = c.args.timer in
     let bs = shown octets c.args.self.now.places in
-    let p = c.impose-in.ensures in
+    let p = c.impose_in.ensures in
     record {
       answer = p.answer;
       after = p.after;
-      law = subst (λ r. Imposes k t r bs (shown octets c.impose-in.new.bars)) (sym p.answer) (subst (Imposes k t (has_place k bs) bs) (sym p.after) (imposes k t bs));
+      law = subst (λ r. Imposes k t r bs (shown octets c.impose_in.new.bars)) (sym p.answer) (subst (Imposes k t (has_place k bs) bs) (sym p.after) (imposes k t bs));
     }

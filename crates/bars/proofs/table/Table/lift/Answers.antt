@@ -10,5 +10,5 @@ returns g c =
     let octets = g.K.Key.octets in
     let bs = c.args.self.now.places in
     let k = octets c.args.key.now in
-    let e = ap (shown octets) c.lift-all.ensures.after ∙ shown_retimed octets (lifting k) bs in
+    let e = ap (shown octets) c.lift_all.ensures.after ∙ shown_retimed octets (lifting k) bs in
     record { after = e; law = subst (Lifts k (shown octets bs)) (sym e) (lifts k (shown octets bs)) }

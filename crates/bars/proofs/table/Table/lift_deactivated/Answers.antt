@@ -9,5 +9,5 @@ pub returns : goal.returns
 returns g c =
     let octets = g.K.Key.octets in
     let bs = c.args.self.now.places in
-    let e = ap (shown octets) c.activate-all.ensures.after ∙ shown_retimed octets (λ _ t. reactivated t) bs in
+    let e = ap (shown octets) c.activate_all.ensures.after ∙ shown_retimed octets (λ _ t. reactivated t) bs in
     record { after = e; law = subst (Reactivates (shown octets bs)) (sym e) (reactivates (shown octets bs)) }

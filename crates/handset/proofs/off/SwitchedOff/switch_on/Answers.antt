@@ -7,8 +7,8 @@ use Rattle.timers.specs.Timers.{timers_view}
 use Rattle.handset.proofs.Fresh.{fresh_claims}
 use Rattle.handset.proofs.off.SwitchedOff.switch_on.Goals as goal
 
-pub invariant-of-state : goal.invariant-of-state
-invariant-of-state g c =
+pub invariant_of-state : goal.invariant_of-state
+invariant_of-state g c =
     let sessions = c.new.ensures in
     let tally = c.no_tally.ensures in
     let out : ◌≡◌ {A = ℕ} c.no_tally.result.let_out 0 = ap (λ t. t.let_out) tally in

@@ -11,18 +11,18 @@ use Rattle.handset.proofs.on.Handset.establish.Goals as goal
 pub returns : goal.returns
 returns g c =
     let s = state_view c.args.self.now.state in
-    let w = wanted_view c.in-ok-wanted.wanted in
+    let w = wanted_view c.in_ok-wanted.wanted in
     let i = c.args.identity in
-    let pti = c.in-ok-pti.pti in
+    let pti = c.in_ok-pti.pti in
     let waiting = g.U.Uplink.waiting c.args.self.now.uplink in
-    let asked = c.in-ok-wanted.ensures in
-    let told = c.in-ok-pti.ensures.answer ∙ ap (λ n. unless_stopped (establish_stop s i w n) s) c.count.ensures in
-    let after = c.in-ok-pti.ensures.state in
+    let asked = c.in_ok-wanted.ensures in
+    let told = c.in_ok-pti.ensures.answer ∙ ap (λ n. unless_stopped (establish_stop s i w n) s) c.count.ensures in
+    let after = c.in_ok-pti.ensures.state in
     record {
       answer = told ∙ ap (λ x. establish_asked x i s waiting) asked;
       state = after ∙ ap (λ x. establish_leaves x i pti s) asked;
       queue =
-          c.send-pending.ensures.queue ∙ ap (λ x. with_message (waiting_message i x) waiting) after
+          c.send_pending.ensures.queue ∙ ap (λ x. with_message (waiting_message i x) waiting) after
           ∙ sent_establishing s i pti waiting w (not_stopped (establish_stop s i w (length waiting)) s pti told)
           ∙ ap (λ x. establish_sends (Ok pti) i x waiting) asked;
       keeper = refl;

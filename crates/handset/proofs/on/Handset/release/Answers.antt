@@ -10,13 +10,13 @@ pub returns : goal.returns
 returns g c =
     let s = state_view c.args.self.now.state in
     let i = c.args.identity in
-    let pti = c.in-ok-pti.pti in
+    let pti = c.in_ok-pti.pti in
     let waiting = g.U.Uplink.waiting c.args.self.now.uplink in
-    let told = c.in-ok-pti.ensures.answer ∙ ap (λ n. unless_stopped (release_stop s i n) s) c.count.ensures in
-    let after = c.in-ok-pti.ensures.state in
+    let told = c.in_ok-pti.ensures.answer ∙ ap (λ n. unless_stopped (release_stop s i n) s) c.count.ensures in
+    let after = c.in_ok-pti.ensures.state in
     record {
       answer = told;
       state = after;
-      queue = c.send-pending.ensures.queue ∙ ap (λ x. with_message (waiting_message i x) waiting) after ∙ sent_releasing s i pti waiting (not_stopped (release_stop s i (length waiting)) s pti told);
+      queue = c.send_pending.ensures.queue ∙ ap (λ x. with_message (waiting_message i x) waiting) after ∙ sent_releasing s i pti waiting (not_stopped (release_stop s i (length waiting)) s pti told);
       keeper = refl;
     }

@@ -8,18 +8,18 @@ pub returns-in-Some : goal.returns-in-Some
 returns-in-Some g c =
     let state = c.args.self.now.state in
     let s = state_view state in
-    let m = c.in-ok-message.message in
-    let a = c.in-ok-answer.answer in
+    let m = c.in_ok-message.message in
+    let a = c.in_ok-answer.answer in
     let reply = c.in-Some.reply in
     let waiting = g.U.Uplink.waiting c.args.self.now.uplink in
-    let read = c.in-ok-message.ensures.answer in
-    let told = c.in-ok-answer.ensures.answer ∙ ap (λ n. taken (Ok m) s n) c.count.ensures in
+    let read = c.in_ok-message.ensures.answer in
+    let told = c.in_ok-answer.ensures.answer ∙ ap (λ n. taken (Ok m) s n) c.count.ensures in
     let due = reply_due s m (length waiting) a reply told c.in-Some.is in
     record {
       answer = told ∙ ap (λ x. taken x s (length waiting)) read;
-      state = c.in-ok-answer.ensures.state ∙ ap (λ x. after_taken (Ok a) x s) read;
+      state = c.in_ok-answer.ensures.state ∙ ap (λ x. after_taken (Ok a) x s) read;
       queue =
-          c.send-reply.ensures ∙ reply_queued s m reply waiting state.lawful due ∙ ap (λ o. replied o m waiting) (sym c.in-Some.is)
+          c.send_reply.ensures ∙ reply_queued s m reply waiting state.lawful due ∙ ap (λ o. replied o m waiting) (sym c.in-Some.is)
           ∙ ap (λ x. waiting_after_taken (Ok a) x waiting) read;
       keeper = refl;
     }

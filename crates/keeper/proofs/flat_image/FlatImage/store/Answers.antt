@@ -3,11 +3,11 @@ use Rattle.keeper.specs.Sizes.{record_length}
 use Rattle.keeper.specs.Parts.{replaced, put_length}
 use Rattle.keeper.proofs.flat_image.FlatImage.store.Goals as goal
 
-pub invariant-of-self : goal.invariant-of-self
-invariant-of-self c =
-    (put_length (record_length * c.args.number) c.args.self.now.image c.put-part.new.octets c.args.content.now (omega arith) c.put-part.ensures.octets ∙ omega arith, tt)
+pub invariant_of-self : goal.invariant_of-self
+invariant_of-self c =
+    (put_length (record_length * c.args.number) c.args.self.now.image c.put_part.new.octets c.args.content.now (omega arith) c.put_part.ensures.octets ∙ omega arith, tt)
 
 pub returns : goal.returns
 returns c = record {
-  records = replaced c.args.number c.args.self.now.image c.put-part.new.octets c.args.content.now (omega arith) (omega arith) (omega arith) c.put-part.ensures.octets;
+  records = replaced c.args.number c.args.self.now.image c.put_part.new.octets c.args.content.now (omega arith) (omega arith) (omega arith) c.put_part.ensures.octets;
 }

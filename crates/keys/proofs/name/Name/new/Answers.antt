@@ -6,14 +6,14 @@ use Rattle.keys.specs.declared.refusal.PartRefusal.TheVariants.{Name}
 use Rattle.keys.proofs.Strings.{padded_rest, padded_length, made}
 use Rattle.keys.proofs.name.Name.new.Goals as goal
 
-pub invariant-of-result : goal.invariant-of-result
-invariant-of-result c =
+pub invariant_of-result : goal.invariant_of-result
+invariant_of-result c =
     let xs = c.in-Some.given.now in
-    let fits = sym c.if-not-is-length.ensures in
+    let fits = sym c.if-not-is_length.ensures in
     let short : length xs ≤ 100 = grind (arith, nat_tests) in
     (short, (padded_length xs c.padded.result 100 c.padded.ensures short, (padded_rest xs c.padded.result _ c.padded.ensures, tt)))
 
 pub returns : goal.returns
 returns c =
     let xs = c.in-Some.given.now in
-    made xs c.padded.result _ c.padded.ensures name_length Name _ (ap (option_map (λ x. x.now)) c.in-Some.is) (sym c.if-not-is-length.ensures)
+    made xs c.padded.result _ c.padded.ensures name_length Name _ (ap (option_map (λ x. x.now)) c.in-Some.is) (sym c.if-not-is_length.ensures)

@@ -6,10 +6,10 @@ use Rattle.keys.specs.declared.refusal.PartRefusal.TheVariants.{Slice}
 use Rattle.keys.proofs.Strings.{padded_rest, padded_length, made}
 use Rattle.keys.proofs.slice.Slice.new.Goals as goal
 
-pub invariant-of-result : goal.invariant-of-result
-invariant-of-result c =
+pub invariant_of-result : goal.invariant_of-result
+invariant_of-result c =
     let xs = c.in-Some.given.now in
-    let fits = sym c.if-not-is-length.ensures in
+    let fits = sym c.if-not-is_length.ensures in
     let short : length xs ≤ 8 = grind (arith, nat_tests) in
     let held : slice_held (length xs) ≡ true = grind (arith, nat_tests) in
     (short, (held, (padded_length xs c.padded.result 8 c.padded.ensures short, (padded_rest xs c.padded.result _ c.padded.ensures, tt))))
@@ -17,4 +17,4 @@ invariant-of-result c =
 pub returns : goal.returns
 returns c =
     let xs = c.in-Some.given.now in
-    made xs c.padded.result _ c.padded.ensures slice_length Slice _ (ap (option_map (λ x. x.now)) c.in-Some.is) (sym c.if-not-is-length.ensures)
+    made xs c.padded.result _ c.padded.ensures slice_length Slice _ (ap (option_map (λ x. x.now)) c.in-Some.is) (sym c.if-not-is_length.ensures)

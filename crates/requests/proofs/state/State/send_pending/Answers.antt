@@ -10,10 +10,10 @@ returns-in-Ok g c =
     let self = c.args.self.now in
     let o = waiting_message c.args.identity (state_view self) in
     let from_zero : c.in-Ok.n - 0 ≡ c.in-Ok.n = omega arith in
-    let s = was_sent o c.in-Ok.n _ c.write-pending.new.out (take (c.in-Ok.n - 0) (drop 0 c.write-pending.new.out)) c.send.result (g.U.Uplink.waiting c.args.uplink.now) (g.U.Uplink.waiting c.send.new.self)
+    let s = was_sent o c.in-Ok.n _ c.write_pending.new.out (take (c.in-Ok.n - 0) (drop 0 c.write_pending.new.out)) c.send.result (g.U.Uplink.waiting c.args.uplink.now) (g.U.Uplink.waiting c.send.new.self)
     (λ m e. waiting_lawful c.args.identity (sessions_view self.sessions) m self.lawful e)
-    c.in-Ok.ensures.answer c.in-Ok.ensures.buffer (ap (λ k. take k c.write-pending.new.out) from_zero) c.send.ensures.answer c.send.ensures.queue in
-    record { answer = c.is-ok.ensures.value ∙ s.answer; queue = s.queue }
+    c.in-Ok.ensures.answer c.in-Ok.ensures.buffer (ap (λ k. take k c.write_pending.new.out) from_zero) c.send.ensures.answer c.send.ensures.queue in
+    record { answer = c.is_ok.ensures.value ∙ s.answer; queue = s.queue }
 
 pub returns-in-Err : goal.returns-in-Err
 returns-in-Err g c =

@@ -2,20 +2,20 @@ use Rattle.std.proofs.Common.{sym, ◌∙◌, arith}
 use Rattle.sessions.specs.Live.{listed}
 use Rattle.sessions.proofs.Listing.{listing_none, listing_live, listing_other, listing_all}
 use Rattle.sessions.proofs.live.session_key.live_keys_in.Goals as goal
-use Rattle.sessions.proofs.live.session_key.live_keys_in.Goals.{then-is-live, else-is-live}
+use Rattle.sessions.proofs.live.session_key.live_keys_in.Goals.{then-is_live, else-is_live}
 
 pub loop-session-init : goal.loop-session-init
 loop-session-init g c = listing_none g.K.Key.octets g.K.SessionKey.part c.args.sessions.now (listed c.none-keys.result) c.none-keys.ensures
 
 pub loop-session-preserved : goal.loop-session-preserved
 loop-session-preserved g c =
-    elim c.if-is-live.branch [
-      | then-is-live w ↦ rw w.keys-is
+    elim c.if-is_live.branch [
+      | then-is_live w ↦ rw w.keys-is
           (listing_live g.K.Key.octets g.K.SessionKey.part c.args.sessions.now c.loop-session.session-index (listed c.loop-session.keys) c.loop-session.invariant c.session-item.result c.requires c.loop-session-test.true c.session-item.is
-          w.of-session-then-is-live.result (listed w.push.new.self) (sym w.if-is-live.true ∙ c.is-live.ensures) w.of-session-then-is-live.ensures w.push.ensures)
-      | else-is-live w ↦ rw w.keys-is
+          w.of_session-then-is_live.result (listed w.push.new.self) (sym w.if-is_live.true ∙ c.is_live.ensures) w.of_session-then-is_live.ensures w.push.ensures)
+      | else-is_live w ↦ rw w.keys-is
           (listing_other g.K.Key.octets g.K.SessionKey.part c.args.sessions.now c.loop-session.session-index (listed c.loop-session.keys) c.loop-session.invariant c.session-item.result c.requires c.loop-session-test.true c.session-item.is
-          (sym w.if-is-live.false ∙ c.is-live.ensures))
+          (sym w.if-is_live.false ∙ c.is_live.ensures))
     ]
 
 pub returns : goal.returns

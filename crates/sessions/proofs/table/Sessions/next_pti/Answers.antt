@@ -9,18 +9,18 @@ use Rattle.sessions.proofs.table.Sessions.next_pti.Goals as goal
 pub loop-init : goal.loop-init
 loop-init c = seek_start (waiting_ptis (sessions_view c.args.self.now)) c.args.last c.after_pti.result c.after_pti.ensures
 
-pub returns-then-not-is-waiting : goal.returns-then-not-is-waiting
-returns-then-not-is-waiting c =
+pub returns-then-not-is_waiting : goal.returns-then-not-is_waiting
+returns-then-not-is_waiting c =
     let t = c.args.self.now in
     record {
-      first = seek_found (sessions_view t) c.args.last c.loop.counter c.loop.pti (length-map t.records session_view ∙ t.full) (sym c.if-not-is-waiting.ensures) c.loop.invariant;
+      first = seek_found (sessions_view t) c.args.last c.loop.counter c.loop.pti (length-map t.records session_view ∙ t.full) (sym c.if-not-is_waiting.ensures) c.loop.invariant;
       lawful = c.loop.invariant.0;
-      free = sym c.if-not-is-waiting.ensures;
+      free = sym c.if-not-is_waiting.ensures;
     }
 
 pub loop-preserved : goal.loop-preserved
 loop-preserved c =
-    seek_more (waiting_ptis (sessions_view c.args.self.now)) c.args.last c.loop.counter c.loop.pti c.after-pti-in-loop.result (omega arith) (sym c.if-not-is-waiting.ensures) c.loop.invariant c.after-pti-in-loop.ensures
+    seek_more (waiting_ptis (sessions_view c.args.self.now)) c.args.last c.loop.counter c.loop.pti c.after-pti-in-loop.result (omega arith) (sym c.if-not-is_waiting.ensures) c.loop.invariant c.after-pti-in-loop.ensures
 
 pub returns : goal.returns
 returns c =

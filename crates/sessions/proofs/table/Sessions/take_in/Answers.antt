@@ -8,7 +8,7 @@ pub returns : goal.returns
 returns c =
     let m = c.args.message.now in
     record {
-      answer = ap (λ o. Some o) c.take-in-outcome.ensures.answer ∙ ap (option_map (λ v. outcome_of v m)) (session_read c.args.self.now.records c.args.self.now.full c.in-Some.place c.args.identity c.in-Some.ensures c.index-self-place.result c.index-self-place.is);
+      answer = ap (λ o. Some o) c.take_in-outcome.ensures.answer ∙ ap (option_map (λ v. outcome_of v m)) (session_read c.args.self.now.records c.args.self.now.full c.in-Some.place c.args.identity c.in-Some.ensures c.index-self-place.result c.index-self-place.is);
       after = changed_at c.args.self.now.records c.args.self.now.full c.in-Some.place c.args.identity c.in-Some.ensures c.index-self-place.result c.index-self-place.is
-          c.take-in-outcome.new.self (λ v. taken_in v m) c.take-in-outcome.ensures.after;
+          c.take_in-outcome.new.self (λ v. taken_in v m) c.take_in-outcome.ensures.after;
     }

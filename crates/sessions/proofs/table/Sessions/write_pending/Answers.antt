@@ -8,6 +8,6 @@ pub returns : goal.returns
 returns c =
     let told = ap (message_of c.args.identity) (session_read c.args.self.now.records c.args.self.now.full c.in-Some.place c.args.identity c.in-Some.ensures c.index-self-place.result c.index-self-place.is) in
     record {
-      answer = c.write-pending.ensures.answer ∙ ap (λ m. pending_answer m (length c.args.out.now)) told;
-      buffer = c.write-pending.ensures.buffer ∙ ap (λ m. pending_buffer c.write-pending.result m c.args.out.now) told;
+      answer = c.write_pending.ensures.answer ∙ ap (λ m. pending_answer m (length c.args.out.now)) told;
+      buffer = c.write_pending.ensures.buffer ∙ ap (λ m. pending_buffer c.write_pending.result m c.args.out.now) told;
     }

@@ -5,8 +5,8 @@ use Rattle.sessions.specs.Ptis.{is_waiting}
 use Rattle.sessions.proofs.Steps.{waiting_step}
 use Rattle.sessions.proofs.table.ask.is_waiting_in.Goals as goal
 
-pub returns-then-has-pti : goal.returns-then-has-pti
-returns-then-has-pti c =
+pub returns-then-has_pti : goal.returns-then-has_pti
+returns-then-has_pti c =
     let step = waiting_step c.args.sessions.now c.loop-session.session-index c.session-item.result c.loop-session-test.true c.session-item.is c.args.pti in
     grind arith
 

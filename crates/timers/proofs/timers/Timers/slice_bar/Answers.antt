@@ -8,7 +8,7 @@ pub returns-in-Some : goal.returns-in-Some
 returns-in-Some c =
     let bs = shown slice_key_octets c.args.self.now.t3585.places in
     let there = at_bar 3 bs c.args.place (bar_octets slice_key_octets c.in-Some.bar) c.in-Some.ensures in
-    record { view = c.kept-of.ensures.view ∙ sym there; seconds = c.kept-of.ensures.seconds }
+    record { view = c.kept_of.ensures.view ∙ sym there; seconds = c.kept_of.ensures.seconds }
 
 pub returns-in-None : goal.returns-in-None
 returns-in-None c = record { view = sym (at_none 3 (shown slice_key_octets c.args.self.now.t3585.places) c.args.place c.in-None.ensures); seconds = tt }

@@ -3,22 +3,22 @@ use Rattle.uplink.specs.Makes.{size}
 use Rattle.uplink.proofs.LineSteps.{take_step, take_first, Ghosts}
 use Rattle.uplink.proofs.line.Line.pull.Goals as goal
 
-pub invariant-of-self : goal.invariant-of-self
-invariant-of-self c =
+pub invariant_of-self : goal.invariant_of-self
+invariant_of-self c =
     let s = c.args.self.now in
-    let n = c.first-length-n.ensures in
-    let turned = c.rotate-left.ensures.after ∙ ap (λ k. drop (2 + k) s.line ++ take (2 + k) s.line) n in
-    let line = c.rotate-left.new.self in
+    let n = c.first_length-n.ensures in
+    let turned = c.rotate_left.ensures.after ∙ ap (λ k. drop (2 + k) s.line ++ take (2 + k) s.line) n in
+    let line = c.rotate_left.new.self in
     let g = subst (λ k. Ghosts line (s.used - (2 + k)) (s.count - 1)) (sym n) (take_step s (omega arith) line c.requires.some turned (omega arith)).1 in
     (omega arith, (g.0, (g.1, (g.2, (g.3, tt)))))
 
 pub returns : goal.returns
 returns c =
     let s = c.args.self.now in
-    let n = c.first-length-n.ensures in
-    let turned = c.rotate-left.ensures.after ∙ ap (λ k. drop (2 + k) s.line ++ take (2 + k) s.line) n in
+    let n = c.first_length-n.ensures in
+    let turned = c.rotate_left.ensures.after ∙ ap (λ k. drop (2 + k) s.line ++ take (2 + k) s.line) n in
     let f = (take_first s (omega arith) c.requires.some).1 in
-    let z : c.first-length-n.result - 0 ≡ size s.line = omega arith in
-    let y : 2 + c.first-length-n.result - 2 ≡ size s.line = omega arith in
-    let a = c.copy-from-slice.ensures.after in
-    record { queue = (take_step s (omega arith) c.rotate-left.new.self c.requires.some turned (omega arith)).0; place = cc }
+    let z : c.first_length-n.result - 0 ≡ size s.line = omega arith in
+    let y : 2 + c.first_length-n.result - 2 ≡ size s.line = omega arith in
+    let a = c.copy_from_slice.ensures.after in
+    record { queue = (take_step s (omega arith) c.rotate_left.new.self c.requires.some turned (omega arith)).0; place = cc }

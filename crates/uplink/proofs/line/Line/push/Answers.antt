@@ -2,10 +2,10 @@ use Rattle.std.proofs.Common.{arith}
 use Rattle.uplink.proofs.LineSteps.{send_step}
 use Rattle.uplink.proofs.line.Line.push.Goals as goal
 
-pub invariant-of-self : goal.invariant-of-self
-invariant-of-self c =
-    let g = (send_step c.args.self.now (omega arith) _ c.copy-from-slice.new.self c.args.message.now (omega arith) (omega arith) (omega arith) c.copy-from-slice.ensures.after).1 in
+pub invariant_of-self : goal.invariant_of-self
+invariant_of-self c =
+    let g = (send_step c.args.self.now (omega arith) _ c.copy_from_slice.new.self c.args.message.now (omega arith) (omega arith) (omega arith) c.copy_from_slice.ensures.after).1 in
     (omega arith, (g.0, (g.1, (g.2, (g.3, tt)))))
 
 pub returns : goal.returns
-returns c = (send_step c.args.self.now (omega arith) _ c.copy-from-slice.new.self c.args.message.now (omega arith) (omega arith) (omega arith) c.copy-from-slice.ensures.after).0
+returns c = (send_step c.args.self.now (omega arith) _ c.copy_from_slice.new.self c.args.message.now (omega arith) (omega arith) (omega arith) c.copy_from_slice.ensures.after).0

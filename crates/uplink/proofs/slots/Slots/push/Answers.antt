@@ -3,8 +3,8 @@ use Rattle.std.proofs.lemmas.List.{places, take_at}
 use Rattle.uplink.specs.Shown.{sent, set_each}
 use Rattle.uplink.proofs.slots.Slots.push.Goals as goal
 
-pub invariant-of-self : goal.invariant-of-self
-invariant-of-self c = (
+pub invariant_of-self : goal.invariant_of-self
+invariant_of-self c = (
   omega arith,
   (
     set_each (λ n. n ≤ 128) c.args.self.now.lens 0 c.args.self.now.count 8 _ (omega arith) c.args.self.now.short (omega arith),
@@ -15,4 +15,4 @@ invariant-of-self c = (
 pub returns : goal.returns
 returns c =
     sent c.args.self.now.slots c.args.self.now.lens c.args.self.now.count (omega arith) (omega arith) _ c.args.message.now (omega arith)
-    (take_at c.copy-from-slice.new.self _ _ (ap length c.copy-from-slice.ensures.after) ∙ c.copy-from-slice.ensures.after)
+    (take_at c.copy_from_slice.new.self _ _ (ap length c.copy_from_slice.ensures.after) ∙ c.copy_from_slice.ensures.after)
