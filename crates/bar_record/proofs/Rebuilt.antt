@@ -1,20 +1,17 @@
 -- From the octets of a lawful record back to the bar.
-use Rattle.std.proofs.Common.{◌≡◌, ℕ, ◌+◌, ◌-◌, ◌^◌, ◌<◌, ◌≤◌, Bool, true, false, cond, ◌&&◌, eqb, ltb, leb, ◌⊎◌, List, [], map, length, get_or, Some, None, Option, sym, refl, ap, ◌∙◌, subst, inl, inr, ⊎_elim, arith}
-use Rattle.std.specs.List.{range_with_len}
+use Rattle.std.proofs.Common.{◌≡◌, ℕ, ◌+◌, ◌-◌, ◌^◌, ◌<◌, ◌≤◌, true, ◌⊎◌, List, [], length, get_or, Some, Option, sym, refl, ap, ◌∙◌, inl, inr, ⊎_elim, arith}
 use Rattle.std.specs.Option.{option_map}
 use Rattle.std.proofs.lemmas.List.FromFn.{get_or-map-range_with_len, length-map-range_with_len}
 use Rattle.std.proofs.lemmas.List.{length-take-le}
 use Rattle.std.proofs.lemmas.Bool.{and_parts, and_from, cases_eq, eq-eqb, eqb-true, le-leb}
 use Rattle.std.proofs.lemmas.Bool.Decides.{nat_tests}
 use Rattle.keys.specs.Lengths.{slice_held}
-use Rattle.keys.specs.Octets.{KeyOctets}
 use Rattle.keys.specs.Parts.{name_octets, slice_octets}
 use Rattle.keys.specs.declared.name.Name.{Name}
 use Rattle.keys.specs.declared.network.Network.{Network}
 use Rattle.keys.specs.declared.slice.Slice.{Slice}
 use Rattle.bar_record.specs.declared.kept.KeptKey.{KeptKey}
 use Rattle.bar_record.specs.declared.kept.KeptKey.TheVariants.{T3396, T3584, T3585}
-use Rattle.bar_record.specs.declared.kept.KeptBar.{KeptBar}
 use Rattle.bar_record.specs.Record.{Kept, kind_number, key_octets, kept_view, seconds_octet, octet_at, written, seconds_kept, key_kept, lawful}
 use Rattle.bar_record.specs.Answers.{Stands, key_made}
 use Rattle.bar_record.proofs.Standing.{no_octets}

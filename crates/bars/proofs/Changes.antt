@@ -1,18 +1,18 @@
 -- What a change of a table means for the timer on every key.
-use Rattle.std.proofs.Common.{◌≡◌, ℕ, ◌+◌, ◌<◌, ◌≤◌, Bool, true, false, cond, not, ◌&&◌, ◌||◌, ltb, ◌⊎◌, List, [], ◌∷◌, ◌++◌, length, set, sym, refl, ap, ◌∙◌, subst, inl, inr, ⊎_elim, arith}
+use Rattle.std.proofs.Common.{◌≡◌, ℕ, ◌<◌, ◌≤◌, Bool, true, false, cond, not, List, [], ◌∷◌, ◌++◌, length, set, sym, refl, ap, ◌∙◌, subst, ⊎_elim, arith}
 use Rattle.std.specs.List.{prefix_len}
 use Rattle.std.proofs.lemmas.List.{set_past}
-use Rattle.std.proofs.lemmas.Bool.{cases_lt, lt-ltb, le-ltb, and_from, true≢false}
+use Rattle.std.proofs.lemmas.Bool.{cases_lt, and_from}
 use Rattle.std.proofs.lemmas.Bool.Decides.{nat_tests}
 use Rattle.backoff.specs.declared.timer.BackOffTimer.{BackOffTimer}
-use Rattle.backoff.specs.declared.timer.BackOffTimer.TheVariants.{Stopped, Running, Deactivated}
+use Rattle.backoff.specs.declared.timer.BackOffTimer.TheVariants.{Stopped}
 use Rattle.backoff.specs.Timer.{counted}
 use Rattle.keys.specs.Octets.{KeyOctets, same_key}
 use Rattle.keys.specs.Lawful.{key_lawful as laws}
 use Rattle.bars.specs.declared.bar.Bar.{Bar}
-use Rattle.bars.specs.Bars.{stands, holds, timer_on, free, apart, standing, place_for, has_place, imposed, retimed, lifting, reactivated, lifted, deactivated_lifted, counted_off}
+use Rattle.bars.specs.Bars.{stands, holds, timer_on, free, apart, standing, place_for, has_place, imposed, lifting, reactivated, lifted, deactivated_lifted, counted_off}
 use Rattle.bars.specs.Claimed.{among, distinct, covered, keys_of, claimed_keys}
-use Rattle.bars.specs.Laws.{Goes, Lifts, Reactivates, Counts, Imposing, Imposes}
+use Rattle.bars.specs.Laws.{Lifts, Reactivates, Counts, Imposing, Imposes}
 use Rattle.bars.proofs.Rows.{same_left, timer_retimed, apart_retimed, timer_set, apart_set, but_held, but_free, free_since, stopped_at_leading, full_since, lifted_still}
 use Rattle.bars.proofs.Distincts.{distinct_more, pigeonhole}
 

@@ -1,5 +1,4 @@
-use Rattle.std.proofs.Common.{◌≡◌, ℕ, get_or, Some, None, Option, sym, refl, ap, ◌∙◌, arith}
-use Rattle.keys.specs.Parts.{name_octets, slice_octets}
+use Rattle.std.proofs.Common.{get_or, Some}
 use Rattle.bar_record.proofs.Rebuilt.{kind_is, slice_length_is, name_length_is, slice_is_held, name_is_short, network_stands, slice_stands, name_stands, seconds_fit, seconds_stand, rebuilt}
 use Rattle.bar_record.proofs.Standing.{inner, not_none}
 use Rattle.bar_record.proofs.read.candidate.Goals as goal

@@ -27,4 +27,4 @@ returns-else-is_record_of c =
 pub returns-in_err-bar : goal.returns-in_err-bar
 returns-in_err-bar c =
     let none : (v : Kept) → lawful v ≡ true → c.args.record.now ≡ written v → ⊥ = λ v law is. not_none (c.in_err-bar.ensures v law is) in
-    rw c.from-residual.ensures (record { exact = none; back = c.in_err-bar.ensures; told = told_of c.args.record.now None none })
+    rw c.from_residual.ensures (record { exact = none; back = c.in_err-bar.ensures; told = told_of c.args.record.now None none })

@@ -1,4 +1,4 @@
-use Rattle.std.proofs.Common.{map, ap, ◌∙◌, arith}
+use Rattle.std.proofs.Common.{map, arith}
 use Rattle.bars.specs.Bars.{shown}
 use Rattle.bars.specs.Claimed.{keys_of}
 use Rattle.bars.proofs.Distincts.{among_standing, among_append}

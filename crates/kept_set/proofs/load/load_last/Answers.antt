@@ -26,7 +26,7 @@ returns-in_err-timers g c =
     let long : trailer_number < length records = omega arith in
     let t = timers_view c.loop-number.timers in
     let read = c.in_err-timers.ensures ∙ ap (λ r. with_record (told r) t) c.record_at.ensures in
-    ap (option_map timers_view) c.from-residual.ensures ∙ loaded_not records c.loop-number.number t long c.loop-number-test.true read ∙ c.loop-number.invariant
+    ap (option_map timers_view) c.from_residual.ensures ∙ loaded_not records c.loop-number.number t long c.loop-number-test.true read ∙ c.loop-number.invariant
 
 pub returns : goal.returns
 returns g c =

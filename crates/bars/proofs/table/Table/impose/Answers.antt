@@ -1,5 +1,5 @@
 use Rattle.std.proofs.Common.{sym, subst}
-use Rattle.bars.specs.Bars.{shown, has_place, imposed}
+use Rattle.bars.specs.Bars.{shown, has_place}
 use Rattle.bars.specs.Laws.{Imposes}
 use Rattle.bars.proofs.Changes.{imposes}
 use Rattle.bars.proofs.table.Table.impose.Goals as goal
