@@ -7,7 +7,7 @@ use Rattle.dl_nas.proofs.container.read_container.Goals as goal
 pub returns-in_err-opened : goal.returns-in_err-opened
 returns-in_err-opened c =
     let xs = c.args.part.octets.now in
-    let p = err_from_is_err_and c.from-residual.result c.from-residual.ensures.1 in
+    let p = err_from_is_err_and c.from_residual.result c.from_residual.ensures.1 in
     let long : 4 ≤ length xs = omega (arith, ltb-true, ltb-false) in
     let first : get_or xs 0 0 ≡ 0x2E = search rules in
     let o = c.in_err-opened.ensures in
@@ -23,7 +23,7 @@ walk-requires c = search (rules, take_rest, length-drop)
 pub returns-in_err-found : goal.returns-in_err-found
 returns-in_err-found c =
     let xs = c.args.part.octets.now in
-    let p = err_from_is_err_and c.from-residual-in_err-found.result c.from-residual-in_err-found.ensures.1 in
+    let p = err_from_is_err_and c.from_residual-in_err-found.result c.from_residual-in_err-found.ensures.1 in
     let long : 4 ≤ length xs = omega (arith, ltb-true, ltb-false) in
     let first : get_or xs 0 0 ≡ 0x2E = search rules in
     let o = c.in_ok-opened.ensures in

@@ -7,7 +7,7 @@ use Rattle.dl_nas.proofs.elements.walk.Goals as goal
 
 pub returns-in_err-size : goal.returns-in_err-size
 returns-in_err-size c =
-    let p = err_from_is_err_and c.from-residual.result c.from-residual.ensures.1 in
+    let p = err_from_is_err_and c.from_residual.result c.from_residual.ensures.1 in
     let s = stop c.loop-rest.rest.now c.loop-rest.place c.loop-rest.found c.in_err-size.field-0.0 (omega (arith, ltb-true, ltb-false)) c.in_err-size.ensures in
     let i = c.loop-rest.invariant.0 in
     let q = p.1 in

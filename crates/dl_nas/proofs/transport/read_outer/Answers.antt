@@ -12,7 +12,7 @@ returns-in_err-found c =
     let size : n ≡ payload_length m = search (rules, places) in
     let starts : misbegun m ≡ None = search rules in
     let whole : payload_end m ≤ length m = search (rules, past6_is, length-drop) in
-    let p = err_from_is_err_and c.from-residual.result c.from-residual.ensures.1 in
+    let p = err_from_is_err_and c.from_residual.result c.from_residual.ensures.1 in
     rw (p.1, p.2) (outer_walk m n (Err c.in_err-found.field-0.0) size starts whole c.in_err-found.ensures)
 
 pub returns : goal.returns
