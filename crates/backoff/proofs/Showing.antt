@@ -1,14 +1,13 @@
 -- What showing a number of seconds answers is fair: the octet of the first unit that fits reads back to a near time,
 -- and every shorter unit was tried before.
-use Rattle.std.proofs.Common.{◌≡◌, ℕ, zero, suc, ◌+◌, ◌-◌, ◌*◌, ◌/◌, ◌%◌, ◌<◌, ◌≤◌, Bool, true, false, cond, eqb, leb, List, [], ◌∷◌, Ok, Err, Result, sym, refl, ap, ◌∙◌, mod-lt, mul-zero, arith, rules}
+use Rattle.std.proofs.Common.{◌≡◌, ℕ, zero, suc, ◌+◌, ◌-◌, ◌*◌, ◌/◌, ◌%◌, ◌<◌, ◌≤◌, true, false, eqb, leb, List, [], ◌∷◌, Ok, Err, refl, ap, ◌∙◌, mod-lt, mul-zero, arith}
 use native.Mathlib.Nat.{div-add-mod}
 use Rattle.std.proofs.lemmas.Bool.{cond_both, leb-true, leb-false, eqb-true, eqb-false, false≢true}
 use Rattle.std.proofs.lemmas.Bool.Decides.{nat_tests}
 use Rattle.backoff.specs.declared.octet.TimerUnit.{TimerUnit}
 use Rattle.backoff.specs.declared.octet.TimerUnit.TheVariants.{TenMinutes, OneHour, TenHours, TwoSeconds, ThirtySeconds, OneMinute, ThreeHundredTwentyHours, Deactivated}
-use Rattle.backoff.specs.declared.octet.ShowRefusal.{ShowRefusal}
-use Rattle.backoff.specs.declared.octet.ShowRefusal.TheVariants.{NoSeconds, TooLong}
-use Rattle.backoff.specs.Octet.{unit_number, unit_of, unit_seconds, timed, reading, octet_of, rounded, ascending, first_fit, shown}
+use Rattle.backoff.specs.declared.octet.ShowRefusal.TheVariants.{NoSeconds}
+use Rattle.backoff.specs.Octet.{unit_number, unit_of, unit_seconds, timed, octet_of, rounded, ascending, first_fit, shown}
 use Rattle.backoff.specs.Laws.{unit_in, Shown, Shows}
 
 -- a quotient rounded up, times the divisor, is the least multiple that is not below

@@ -1,5 +1,5 @@
 -- What holds of the timer octet, in the subject's own words.
-use Rattle.std.specs.Prelude.{◌≡◌, ℕ, ◌+◌, ◌*◌, ◌/◌, ◌<◌, ◌≤◌, true, List, [], ◌∷◌, ◌++◌, map, replicate, Ok, Err, Result}
+use Rattle.std.specs.Prelude.{◌≡◌, ℕ, ◌+◌, ◌*◌, ◌/◌, ◌<◌, ◌≤◌, true, List, ◌∷◌, ◌++◌, map, replicate, Ok, Err, Result}
 use Rattle.std.specs.List.{range_with_len}
 use Rattle.backoff.specs.declared.octet.TimerUnit.{TimerUnit}
 use Rattle.backoff.specs.declared.octet.TimerValue.{TimerValue}

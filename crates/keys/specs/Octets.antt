@@ -1,5 +1,5 @@
 -- A key by its octets, the same form for every kind: a part that the kind's key lacks, and an absent part, has none.
-use Rattle.std.specs.Prelude.{ℕ, Bool, ◌&&◌, List}
+use Rattle.std.specs.Prelude.{ℕ, Bool, List}
 use Rattle.std.specs.Str.{bytes_eq}
 use Rattle.keys.specs.Same.{by, both}
 

@@ -1,5 +1,5 @@
 -- A lawful slice and a lawful name are short enough for a length of one octet.
-use Rattle.std.proofs.Common.{◌≡◌, ℕ, true, ◌&&◌, List, length, Some, None, Option, arith}
+use Rattle.std.proofs.Common.{◌≡◌, ℕ, true, ◌&&◌, List, Some, None, Option, arith}
 use Rattle.std.proofs.lemmas.Bool.Decides.{nat_tests}
 use Rattle.std.proofs.lemmas.Bool.{and_parts}
 use Rattle.ul_nas.specs.declared.message.RequestType.{RequestType}

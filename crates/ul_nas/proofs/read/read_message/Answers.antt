@@ -8,7 +8,7 @@ returns-in_default c = not_opened c.args.octets.now (search rules)
 
 pub returns-in_err-content : goal.returns-in_err-content
 returns-in_err-content c =
-    rw c.from-residual.ensures
+    rw c.from_residual.ensures
     (opened c.args.octets.now _ None (search rules) (take_rest c.args.octets.now 10) c.in_err-content.ensures)
 
 pub returns-then-not-is_lawful : goal.returns-then-not-is_lawful

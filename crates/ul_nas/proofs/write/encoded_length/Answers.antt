@@ -6,8 +6,8 @@ use Rattle.ul_nas.proofs.Layouts.{frame_length}
 use Rattle.ul_nas.proofs.Longest.{longest}
 use Rattle.ul_nas.proofs.write.encoded_length.Goals as goal
 
-pub overflow-add-result-2 : goal.overflow-add-result-2
-overflow-add-result-2 c =
+pub overflow_add-result-2 : goal.overflow_add-result-2
+overflow_add-result-2 c =
     let m = c.args.message.now in
     omega (
       arith,

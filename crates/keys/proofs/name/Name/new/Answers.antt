@@ -1,4 +1,4 @@
-use Rattle.std.proofs.Common.{◌≡◌, ◌≤◌, true, length, sym, ap, arith}
+use Rattle.std.proofs.Common.{◌≤◌, length, sym, ap, arith}
 use Rattle.std.specs.Option.{option_map}
 use Rattle.std.proofs.lemmas.Bool.Decides.{nat_tests}
 use Rattle.keys.specs.Lengths.{name_length}
@@ -11,7 +11,11 @@ invariant_of-result c =
     let xs = c.in-Some.given.now in
     let fits = sym c.if-not-is_length.ensures in
     let short : length xs ≤ 100 = grind (arith, nat_tests) in
-    (short, (padded_length xs c.padded.result 100 c.padded.ensures short, (padded_rest xs c.padded.result _ c.padded.ensures, tt)))
+    record {
+      short = short;
+      full = padded_length xs c.padded.result 100 c.padded.ensures short;
+      unused = padded_rest xs c.padded.result _ c.padded.ensures;
+    }
 
 pub returns : goal.returns
 returns c =

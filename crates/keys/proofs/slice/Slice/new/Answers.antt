@@ -12,7 +12,12 @@ invariant_of-result c =
     let fits = sym c.if-not-is_length.ensures in
     let short : length xs ≤ 8 = grind (arith, nat_tests) in
     let held : slice_held (length xs) ≡ true = grind (arith, nat_tests) in
-    (short, (held, (padded_length xs c.padded.result 8 c.padded.ensures short, (padded_rest xs c.padded.result _ c.padded.ensures, tt))))
+    record {
+      short = short;
+      lawful = held;
+      full = padded_length xs c.padded.result 8 c.padded.ensures short;
+      unused = padded_rest xs c.padded.result _ c.padded.ensures;
+    }
 
 pub returns : goal.returns
 returns c =

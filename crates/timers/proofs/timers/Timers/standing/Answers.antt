@@ -3,15 +3,15 @@ use Rattle.keys.specs.Sames.{name_key_octets, slice_name_key_octets, slice_key_o
 use Rattle.timers.proofs.Room.{standing_most}
 use Rattle.timers.proofs.timers.Timers.standing.Goals as goal
 
-pub overflow-add-result : goal.overflow-add-result
-overflow-add-result c =
+pub overflow_add-result : goal.overflow_add-result
+overflow_add-result c =
     let t = c.args.self.now in
     let a = standing_most name_key_octets t.t3396.places t.t3396.full in
     let b = standing_most slice_name_key_octets t.t3584.places t.t3584.full in
     omega arith
 
-pub overflow-add-result-2 : goal.overflow-add-result-2
-overflow-add-result-2 c =
+pub overflow_add-result-2 : goal.overflow_add-result-2
+overflow_add-result-2 c =
     let t = c.args.self.now in
     let a = standing_most name_key_octets t.t3396.places t.t3396.full in
     let b = standing_most slice_name_key_octets t.t3584.places t.t3584.full in
