@@ -1,3 +1,0 @@
-mod Sent
-mod Replied
-mod Fresh

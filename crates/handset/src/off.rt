@@ -1,11 +1,14 @@
 // The switched-off handset. It has no request calls.
 ghost use Rattle.std.specs.Prelude.{◌≡◌, length};
-ghost use Rattle.rules.specs.Power.{commissioned, taken_length};
+ghost use Rattle.handset.specs.Calls.{commissioned};
+ghost use Rattle.handset.specs.Taking.{taken_length};
 ghost use Rattle.uplink.specs.Waiting.{after_take, place_after};
 
-use keeper::{Keeper, RECORD_LENGTH};
-use kept_set::TRAILER;
+use keeper::{Keeper, RECORD_LENGTH, RECORDS};
 use uplink::queue::Uplink;
+
+// The number of the trailer, the last record: it points back to the records of the kept bars.
+pub const TRAILER: u8 = RECORDS as u8 - 1;
 
 // A switched-off handset holds nothing of its own beside uplink and keeper.
 pub struct SwitchedOff<U: Uplink, K: Keeper> {
@@ -24,7 +27,7 @@ pub fn commission<U: Uplink, K: Keeper>(uplink: U, keeper: K) -> SwitchedOff<U, 
 }
 
 // The network takes the oldest message into a place, and answers its length; refused, 0 with nothing written.
-pub fn take_oldest<U: Uplink>(uplink: &mut U, place: &mut [u8]) -> usize
+pub(crate) fn take_oldest<U: Uplink>(uplink: &mut U, place: &mut [u8]) -> usize
     ensures answer { result ≡ taken_length (U.Uplink.waiting uplink.old) (length place.old) }
     ensures queue { U.Uplink.waiting uplink.new ≡ after_take (U.Uplink.waiting uplink.old) place.old }
     ensures place { place.new ≡ place_after (U.Uplink.waiting uplink.old) place.old }

@@ -1,8 +1,9 @@
 // The switched-on handset.
 ghost use Rattle.std.specs.Prelude.{◌≡◌, length};
+ghost use Rattle.handset.specs.Calls.{network_changed, looked_up};
+ghost use Rattle.handset.specs.Taking.{taken_length};
 ghost use Rattle.keys.specs.Parts.{name_octets, slice_octets};
 ghost use Rattle.requests.specs.State.{state_view};
-ghost use Rattle.rules.specs.Power.{network_changed, looked_up, taken_length};
 ghost use Rattle.uplink.specs.Waiting.{after_take, place_after};
 
 use crate::off::take_oldest;

@@ -1,5 +1,5 @@
 mod Keys
 pub mod Rows
+pub mod Thinning
 pub mod Leaving
 pub mod Messages
-pub mod Thinning

@@ -59,6 +59,21 @@ let_out_modification identity pti s = let_out_of identity (modified pti) pti s
 abbrev pub let_out_release : ℕ → ℕ → StateView → StateView
 let_out_release identity pti s = let_out_of identity (released pti) pti s
 
+-- the question that stopped the request, if one did
+abbrev pub stopped_by : Result ℕ Question → Option Question
+stopped_by (Ok pti) = None
+stopped_by (Err q) = Some q
+
+-- the PTI with which the request was let out, if it was
+abbrev pub given_pti : Result ℕ Question → Option ℕ
+given_pti (Ok pti) = Some pti
+given_pti (Err q) = None
+
+-- the next PTI after the one given last that no waiting request has, where no question stops the request
+abbrev pub pti_unless : Option Question → StateView → Option ℕ
+pti_unless None s = next_free s.sessions s.last_pti
+pti_unless (Some q) s = None
+
 -- the next PTI, if there is one
 abbrev pub pti_or_zero : Option ℕ → ℕ
 pti_or_zero None = 0

@@ -1,7 +1,9 @@
 // Acting on a decision: a request that no question stops is let out, and waits from then on.
-ghost use Rattle.std.specs.Prelude.{◌≡◌};
+ghost use Rattle.std.specs.Prelude.{◌≡◌, ◌<◌, Some};
+ghost use Rattle.sessions.specs.Ptis.{next_free};
+ghost use Rattle.sessions.specs.Table.{sessions_view};
 ghost use Rattle.requests.specs.Decisions.{establish_stop, modify_stop, release_stop};
-ghost use Rattle.requests.specs.LettingOut.{let_out_establishment, let_out_modification, let_out_release, unless_stopped, after_request};
+ghost use Rattle.requests.specs.LettingOut.{with_pti_given, let_out_establishment, let_out_modification, let_out_release, stopped_by, given_pti, pti_unless, after_request};
 ghost use Rattle.requests.specs.State.{state_view};
 ghost use Rattle.requests.specs.Wanted.{wanted_view};
 
@@ -10,6 +12,19 @@ use crate::state::State;
 use crate::wanted::Wanted;
 
 impl State {
+    // Gives the next PTI to a request that is let out, and counts the request.
+    fn give_pti(&mut self) -> u8
+        requires { self.old.tally.let_out < 1000000000 }
+        ensures next { Some result ≡ next_free (sessions_view self.old.sessions) self.old.last_pti }
+        ensures state { state_view self.new ≡ with_pti_given result (state_view self.old) }
+        ensures network { self.new.network ≡ self.old.network }
+    {
+        let pti = self.sessions.next_pti(self.last_pti);
+        self.last_pti = pti;
+        self.tally.let_out += 1;
+        pti
+    }
+
     // Lets an establishment request out with the next PTI, or answers the question that stops it.
     pub fn establish(
         &mut self,
@@ -17,53 +32,49 @@ impl State {
         wanted: &Wanted,
         waiting: usize,
     ) -> Result<u8, Question>
-        ensures answer { result ≡ unless_stopped (establish_stop (state_view self.old) identity (wanted_view wanted.now) waiting) (state_view self.old) }
+        ensures stop { stopped_by result ≡ establish_stop (state_view self.old) identity (wanted_view wanted.now) waiting }
+        ensures pti { given_pti result ≡ pti_unless (establish_stop (state_view self.old) identity (wanted_view wanted.now) waiting) (state_view self.old) }
         ensures state { state_view self.new ≡ after_request result (let_out_establishment identity (wanted_view wanted.now)) (state_view self.old) }
     {
         if let Some(question) = self.establishment_stopped_by(identity, wanted, waiting) {
             return Err(question);
         }
-        let pti = self.sessions.next_pti(self.last_pti);
-        self.sessions.establish(
-            identity,
-            wanted.request_type,
-            wanted.slice,
-            wanted.name,
-            self.network,
-            pti,
-        );
-        self.last_pti = pti;
-        self.tally.let_out += 1;
+        let pti = self.give_pti();
+        let Wanted {
+            request_type,
+            slice,
+            name,
+        } = *wanted;
+        self.sessions
+            .establish(identity, request_type, slice, name, self.network, pti);
         Ok(pti)
     }
 
     // Lets a modification request out with the next PTI, or answers the question that stops it.
     pub fn modify(&mut self, identity: u8, waiting: usize) -> Result<u8, Question>
-        ensures answer { result ≡ unless_stopped (modify_stop (state_view self.old) identity waiting) (state_view self.old) }
+        ensures stop { stopped_by result ≡ modify_stop (state_view self.old) identity waiting }
+        ensures pti { given_pti result ≡ pti_unless (modify_stop (state_view self.old) identity waiting) (state_view self.old) }
         ensures state { state_view self.new ≡ after_request result (let_out_modification identity) (state_view self.old) }
     {
         if let Some(question) = self.modification_stopped_by(identity, waiting) {
             return Err(question);
         }
-        let pti = self.sessions.next_pti(self.last_pti);
+        let pti = self.give_pti();
         self.sessions.modify(identity, pti);
-        self.last_pti = pti;
-        self.tally.let_out += 1;
         Ok(pti)
     }
 
     // Lets a release request out with the next PTI, or answers the question that stops it.
     pub fn release(&mut self, identity: u8, waiting: usize) -> Result<u8, Question>
-        ensures answer { result ≡ unless_stopped (release_stop (state_view self.old) identity waiting) (state_view self.old) }
+        ensures stop { stopped_by result ≡ release_stop (state_view self.old) identity waiting }
+        ensures pti { given_pti result ≡ pti_unless (release_stop (state_view self.old) identity waiting) (state_view self.old) }
         ensures state { state_view self.new ≡ after_request result (let_out_release identity) (state_view self.old) }
     {
         if let Some(question) = self.release_stopped_by(identity, waiting) {
             return Err(question);
         }
-        let pti = self.sessions.next_pti(self.last_pti);
+        let pti = self.give_pti();
         self.sessions.release(identity, pti);
-        self.last_pti = pti;
-        self.tally.let_out += 1;
         Ok(pti)
     }
 }

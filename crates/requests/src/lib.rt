@@ -4,6 +4,5 @@
 pub mod decide;
 pub mod let_out;
 pub mod question;
-pub mod send;
 pub mod state;
 pub mod wanted;

@@ -1,18 +1,46 @@
-ghost use Rattle.std.specs.Prelude.{◌≡◌, true};
-ghost use Rattle.keys.specs.Parts.{name_octets, slice_octets};
-ghost use Rattle.requests.specs.Sound.{lawful_parts};
+// What an establishment request asks for.
+ghost use Rattle.std.specs.Prelude.{◌≡◌};
+ghost use Rattle.std.specs.Option.{option_map};
+ghost use Rattle.requests.specs.Wanted.{wanted_view, wanted_of, told_wanted};
 
-pub mod make;
-
+use crate::question::Question;
 use keys::name::Name;
 use keys::slice::Slice;
 use ul_nas::message::RequestType;
 
-// What an establishment request asks for: a request type, a slice and a name, lawful together.
+// A lawful request type, slice and name.
 #[derive(Clone, Copy)]
 pub struct Wanted {
     pub request_type: RequestType,
     pub slice: Slice,
     pub name: Name,
-    ghost lawful: { lawful_parts request_type (slice_octets slice) (name_octets name) ≡ true },
+}
+
+impl Wanted {
+    // The questions 1 to 4: the request type, absent parts under an emergency type, the name, the slice.
+    pub fn new(
+        request_type: u8,
+        slice: Option<&[u8]>,
+        name: Option<&[u8]>,
+    ) -> Result<Wanted, Question>
+        ensures { told_wanted result ≡ wanted_of request_type (option_map (λ x. x.now) slice.entry) (option_map (λ x. x.now) name.entry) }
+    {
+        let Some(request_type) = RequestType::from_number(request_type) else {
+            return Err(Question::RequestType);
+        };
+        if request_type.is_emergency() && (slice.is_some() || name.is_some()) {
+            return Err(Question::EmergencyParts);
+        }
+        let Ok(name) = Name::new(name) else {
+            return Err(Question::Name);
+        };
+        let Ok(slice) = Slice::new(slice) else {
+            return Err(Question::Slice);
+        };
+        Ok(Wanted {
+            request_type,
+            slice,
+            name,
+        })
+    }
 }
