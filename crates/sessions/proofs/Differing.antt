@@ -1,11 +1,11 @@
 -- The PTIs stay different.
-use Rattle.std.proofs.Common.{◌≡◌, ℕ, zero, suc, Bool, true, false, cond, not, ◌&&◌, ◌||◌, eqb, List, [], ◌∷◌, set, Some, None, Option, sym, refl, ap, ◌∙◌, arith}
+use Rattle.std.proofs.Common.{◌≡◌, ℕ, zero, suc, true, false, not, ◌||◌, eqb, List, [], ◌∷◌, set, Some, None, Option, refl, ap, ◌∙◌, arith}
 use Rattle.std.proofs.lemmas.Bool.Decides.{nat_tests}
 use Rattle.std.specs.List.{slice_get}
 use Rattle.std.specs.Option.{option_map}
 use Rattle.session.specs.Session.{SessionView, waiting_pti, established, modified, released}
-use Rattle.sessions.specs.Table.{place_of, at_place, session_of, put, changed}
-use Rattle.sessions.specs.Ptis.{with_pti, waiting_ptis, some_pti, is_pending, among, candidates, first_free, next_free}
+use Rattle.sessions.specs.Table.{place_of, at_place, put}
+use Rattle.sessions.specs.Ptis.{with_pti, waiting_ptis, some_pti, among, candidates, first_free, next_free}
 use Rattle.sessions.specs.Laws.{all_differ, not_pending, Differs, StayDifferent}
 
 first_not_among : (p : ℕ) (ws ps : List ℕ) → Some p ≡ first_free ws ps → among p ws ≡ false

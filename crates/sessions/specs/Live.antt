@@ -1,5 +1,5 @@
 -- The keys that sessions claim.
-use Rattle.std.specs.Prelude.{ℕ, Bool, cond, not, ◌&&◌, List, [], ◌∷◌, ◌++◌, length, take, nat_lt}
+use Rattle.std.specs.Prelude.{Bool, cond, not, ◌&&◌, List, [], ◌∷◌, ◌++◌, length, take, nat_lt}
 use Rattle.keys.specs.Octets.{KeyOctets}
 use Rattle.ul_nas.specs.Message.{emergency}
 use Rattle.session.specs.State.{inactive}

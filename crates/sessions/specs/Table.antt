@@ -1,5 +1,5 @@
 -- The table of fifteen sessions, told by the list of what each session tells of itself.
-use Rattle.std.specs.Prelude.{ℕ, ◌-◌, Bool, cond, ◌&&◌, List, map, Some, None, Option, nat_le, slice_set}
+use Rattle.std.specs.Prelude.{ℕ, ◌-◌, cond, ◌&&◌, List, map, Some, None, Option, nat_le, slice_set}
 use Rattle.std.specs.Option.{option_map}
 use Rattle.std.specs.List.{slice_get}
 use Rattle.session.specs.declared.session.Session.{Session}

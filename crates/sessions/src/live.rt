@@ -1,6 +1,6 @@
 ghost use Rattle.std.specs.Prelude.{◌≡◌, ◌≤◌, length};
 
-pub mod keys;
+pub mod methods;
 pub mod session_key;
 
 // The keys of live sessions, with room for the key of one request more: at most 16.

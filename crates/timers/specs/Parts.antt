@@ -1,5 +1,5 @@
 -- The parts of the three keys, and the keys made of them, by their octets.
-use Rattle.std.specs.Prelude.{ℕ, List, []}
+use Rattle.std.specs.Prelude.{[]}
 use Rattle.keys.specs.Octets.{KeyOctets}
 use Rattle.keys.specs.Parts.{name_octets, slice_octets}
 use Rattle.session.specs.Session.{SessionView}

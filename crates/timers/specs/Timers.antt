@@ -2,7 +2,6 @@
 use Rattle.std.specs.Prelude.{ℕ, Bool, cond, ◌&&◌, List, [], ◌∷◌, replicate, Some, None, Option, nat_le}
 use Rattle.backoff.specs.declared.octet.TimerValue.{TimerValue}
 use Rattle.backoff.specs.declared.octet.TimerValue.TheVariants as value
-use Rattle.backoff.specs.declared.timer.BackOffTimer.{BackOffTimer}
 use Rattle.backoff.specs.declared.timer.BackOffTimer.TheVariants.{Stopped, Running, Deactivated}
 use Rattle.bars.specs.declared.bar.Bar.{Bar}
 use Rattle.bars.specs.Bars.{shown, stands, timer_on, imposed, lifted, deactivated_lifted, counted_off}

@@ -1,4 +1,4 @@
-use Rattle.std.proofs.Common.{sym, ◌∙◌, arith}
+use Rattle.std.proofs.Common.{sym, ◌∙◌}
 use Rattle.sessions.specs.Live.{listed}
 use Rattle.sessions.proofs.Listing.{listing_none, listing_live, listing_other, listing_all}
 use Rattle.sessions.proofs.live.session_key.live_keys_in.Goals as goal
