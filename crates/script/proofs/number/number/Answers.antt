@@ -1,4 +1,4 @@
-use Rattle.std.proofs.Common.{◌+◌, drop, sym, ap, ◌∙◌, arith, rules}
+use Rattle.std.proofs.Common.{◌+◌, drop, sym, ap, ◌∙◌, rules}
 use Rattle.script.proofs.Numerals.{onward, step_on, no_number, whole_number}
 use Rattle.script.proofs.number.number.Goals as goal
 
@@ -6,7 +6,7 @@ pub returns-in_err-value : goal.returns-in_err-value
 returns-in_err-value c =
     let word = c.args.word.now in
     let i = c.loop-i.i in
-    c.from-residual.ensures
+    c.from_residual.ensures
     ∙ sym (no_number word (c.loop-i.invariant.1 ∙ step_on word i c.loop-i.value c.loop-i-test.true ∙ ap (λ o. onward o (drop (i + 1) word)) (sym c.in_err-value.ensures)))
 
 pub loop-i-preserved : goal.loop-i-preserved
