@@ -1,5 +1,5 @@
 -- Moving the oldest waiting message into a record.
-use Rattle.std.specs.Prelude.{ℕ, ◌-◌, Bool, cond, not, ◌&&◌, List, ◌++◌, length, drop, replicate, ◌==◌, nat_lt, slice_set}
+use Rattle.std.specs.Prelude.{ℕ, Bool, cond, not, ◌&&◌, List, ◌++◌, length, drop, replicate, ◌==◌, nat_lt, slice_set}
 use Rattle.uplink.specs.Waiting.{oldest}
 
 -- a message waits, and the record's number is lawful

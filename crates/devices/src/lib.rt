@@ -33,7 +33,6 @@ mod tests {
     use keeper::Keeper;
     use keeper::flat_image::FlatImage;
     use std::process::Abort;
-    use std::test::Fail;
     use uplink::alike::{UplinkCall, answer_alike};
     use uplink::line::Line;
     use uplink::queue::Uplink;
@@ -82,17 +81,17 @@ mod tests {
     }
 
     // Takes the oldest message, which is expected to be this one, after a place that is one octet too short.
-    fn takes<U: Uplink>(rt: &impl Abort, uplink: &mut U, message: &[u8]) {
+    fn takes<U: Uplink>(rt: &impl Abort, uplink: &mut U, make: &str, message: &[u8]) {
         let mut short = [0xAAu8; 127];
         if message.len() >= 1 && message.len() <= 128 {
             let refused = uplink.take(&mut short[0..message.len() - 1]);
-            assert!(rt; matches!(refused, Err(TakeRefusal::Short)));
+            assert!(rt; matches!(refused, Err(TakeRefusal::Short)), "{make}");
         }
-        assert!(rt; short == [0xAA; 127]);
+        assert!(rt; short == [0xAA; 127], "{make}");
         let mut place = [0xAAu8; 129];
         let taken = uplink.take(&mut place);
-        assert!(rt; matches!(taken, Ok(n) if n == message.len()));
-        assert!(rt; begins_with(&place, message));
+        assert!(rt; matches!(taken, Ok(n) if n == message.len()), "{make}");
+        assert!(rt; begins_with(&place, message), "{make}");
     }
 
     // The messages of the test: one of 16, 32, .. 128 octets each.
@@ -101,31 +100,38 @@ mod tests {
     }
 
     // Fills an uplink, and takes all out again in their order.
-    fn fills_and_empties<U: Uplink>(rt: &impl Abort, uplink: &mut U) -> Result<(), Fail> {
+    fn fills_and_empties<U: Uplink>(rt: &impl Abort, uplink: &mut U, make: &str) {
         for i in 1..9 {
             let sent = uplink.send(&message(i)[0..16 * i]);
-            assert!(rt; matches!(sent, Ok(())));
+            assert!(rt; matches!(sent, Ok(())), "{make}");
         }
-        assert!(rt; matches!(uplink.send(&[9]), Err(SendRefusal::Full)));
-        assert!(rt; matches!(uplink.send(&[]), Err(SendRefusal::Length)));
+        assert!(rt;
+            matches!(uplink.send(&[9]), Err(SendRefusal::Full)),
+            "{make}"
+        );
+        assert!(rt;
+            matches!(uplink.send(&[]), Err(SendRefusal::Length)),
+            "{make}"
+        );
         for i in 1..9 {
-            assert!(rt; uplink.count() == 9 - i);
-            takes(rt, uplink, &message(i)[0..16 * i]);
+            assert!(rt; uplink.count() == 9 - i, "{make}");
+            takes(rt, uplink, make, &message(i)[0..16 * i]);
         }
         let mut place = [0u8; 128];
-        assert!(rt; matches!(uplink.take(&mut place), Err(TakeRefusal::Empty)));
-        Ok(())
+        assert!(rt;
+            matches!(uplink.take(&mut place), Err(TakeRefusal::Empty)),
+            "{make}"
+        );
     }
 
     #[test]
-    fn uplinks_keep_the_order(rt: HostRuntime) -> Result<(), Fail> {
+    fn uplinks_keep_the_order(rt: HostRuntime) {
         let mut slots = Slots::new();
         let mut line = Line::new();
         for _ in 0..3 {
-            fills_and_empties(&rt, &mut slots).note("slots")?;
-            fills_and_empties(&rt, &mut line).note("line")?;
+            fills_and_empties(&rt, &mut slots, "slots");
+            fills_and_empties(&rt, &mut line, "line");
         }
-        Ok(())
     }
 
     #[test]

@@ -3,7 +3,7 @@ use Rattle.std.proofs.Common.{◌≡◌, ℕ, ◌+◌, ◌-◌, ◌*◌, ◌^◌
 use Rattle.std.proofs.lemmas.List.{at_drop_more, at_drop_all}
 use Rattle.std.proofs.lemmas.Bool.{cond_both, lt-ltb}
 use Rattle.std.proofs.lemmas.Bool.Decides.{nat_tests}
-use Rattle.script.specs.Number.{is_digit, digits_only, spelled_behind, fitting_behind, extended, numeral}
+use Rattle.script.specs.Number.{spelled_behind, fitting_behind, extended, numeral}
 
 -- more digits make no smaller number
 grows : (n : ℕ) (cs : List ℕ) → n ≤ spelled_behind n cs

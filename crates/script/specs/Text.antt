@@ -1,5 +1,5 @@
 -- How a line is cut into words.
-use Rattle.std.specs.Prelude.{ℕ, zero, suc, Bool, cond, not, ◌&&◌, ◌||◌, List, take, drop, ◌==◌}
+use Rattle.std.specs.Prelude.{ℕ, zero, suc, Bool, not, ◌&&◌, ◌||◌, List, take, drop, ◌==◌}
 use Rattle.std.specs.List.{prefix_len}
 use Rattle.script.specs.declared.text.Run.{Run}
 use Rattle.script.specs.declared.text.Run.TheVariants.{Blanks, Word}

@@ -15,8 +15,8 @@ mod tests {
     #[test]
     fn words_of_a_line(rt: HostRuntime) {
         let line = b" octet\t A5  ";
-        assert!(rt; word(line, 0) == b"octet");
-        assert!(rt; word(line, 1) == b"A5");
+        assert!(rt; word(line, 0) == b"octet".as_slice());
+        assert!(rt; word(line, 1) == b"A5".as_slice());
         assert!(rt; word(line, 2).is_empty());
     }
 
@@ -26,7 +26,7 @@ mod tests {
         assert_eq!(rt; octet(b"A"), None);
         assert_eq!(rt; octet(b"G0"), None);
         let read = octets(rt.alloc(), b"7e00Fe")?;
-        assert!(rt; read.as_slice() == b"\x7E\x00\xFE");
+        assert!(rt; read.as_slice() == b"\x7E\x00\xFE".as_slice());
         let shown = format!(in rt.alloc();
             "{}",
             Capitals {

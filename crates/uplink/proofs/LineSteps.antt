@@ -1,8 +1,8 @@
 -- What a send and a take do to a `Line`.
-use Rattle.std.proofs.Common.{◌≡◌, ℕ, ◌+◌, ◌-◌, ◌*◌, ◌/◌, ◌%◌, ◌<◌, ◌≤◌, List, [], ◌∷◌, ◌++◌, length, get_or, take, drop, set, sym, refl, ap, ◌∙◌, arith, rules}
+use Rattle.std.proofs.Common.{◌≡◌, ℕ, ◌+◌, ◌-◌, ◌*◌, ◌/◌, ◌%◌, ◌<◌, ◌≤◌, List, [], ◌∷◌, ◌++◌, length, get_or, take, drop, set, refl, ap, arith, rules}
 use borrow.Rule.Slice.PartMut.{put_mid}
 use Rattle.std.specs.List.{flat_map}
-use Rattle.std.proofs.lemmas.List.{places, length-set, length_push, length-drop, length-append, length-take-le, get_or-drop}
+use Rattle.std.proofs.lemmas.List.{places, length_push, length-drop, get_or-drop}
 use Rattle.uplink.specs.declared.line.Line.{Line}
 use Rattle.uplink.specs.Makes.{framed, parsed, size}
 use Rattle.uplink.specs.Waiting.{oldest}

@@ -1,11 +1,10 @@
 -- The messages of a line.
 use Rattle.std.specs.Prelude.{◌≡◌, ℕ, zero, suc, ◌+◌, ◌-◌, ◌*◌, ◌/◌, ◌%◌, ◌<◌, ◌≤◌, List, [], ◌∷◌, ◌++◌, length, take, drop, slice_index_or, slice_set, refl}
-use Rattle.std.proofs.Common.{sym, ap, subst, ◌∙◌, ⊎_elim, arith, rules}
+use Rattle.std.proofs.Common.{sym, ap, subst, ◌∙◌, arith}
 use borrow.Rule.Slice.PartMut.{put_mid}
 use Rattle.std.specs.List.{flat_map}
-use Rattle.std.proofs.lemmas.List.{length-append, length-set, length-drop, length-take-le, append_assoc, append-nil, take-append-drop, take_at, drop_at, drop-drop, take_more_set, get_or-drop, get_or_push, get_or_append_left, get_or-append_right, flat_map_more}
+use Rattle.std.proofs.lemmas.List.{length-append, length-set, length-take-le, append_assoc, take-append-drop, take_at, drop_at, drop-drop, take_more_set, flat_map_more}
 use Rattle.std.proofs.lemmas.Slice.{take-put_mid}
-use Rattle.std.proofs.lemmas.Bool.{cases_lt}
 use Rattle.uplink.specs.Makes.{framed, size, parsed}
 use Rattle.uplink.specs.Waiting.{oldest}
 

@@ -25,10 +25,10 @@ returns g c =
     let r = left_answer _ _ _ _ _ _ l in
     record {
       answer = r;
-      one = l.of-one;
-      other = l.of-other;
+      one = l.of_one;
+      other = l.of_other;
       law = λ e. (
         r ∙ ap (λ rs. all_alike rs (b c.args.other.now) (map asked calls)) e ∙ same_alike _ (map asked calls),
-        l.of-one ∙ ap (λ rs. after_all rs (map asked calls)) e ∙ sym l.of-other,
+        l.of_one ∙ ap (λ rs. after_all rs (map asked calls)) e ∙ sym l.of_other,
       );
     }

@@ -1,4 +1,4 @@
-use Rattle.std.proofs.Common.{◌+◌, drop, sym, ap, ◌∙◌, arith, rules}
+use Rattle.std.proofs.Common.{◌+◌, drop, sym, ap, ◌∙◌, rules}
 use Rattle.script.proofs.Numerals.{onward, step_on, no_number, whole_number}
 use Rattle.script.proofs.number.number.Goals as goal
 

@@ -5,7 +5,7 @@ use Rattle.keeper.proofs.flat_image.FlatImage.store.Goals as goal
 
 pub invariant_of-self : goal.invariant_of-self
 invariant_of-self c =
-    (put_length (record_length * c.args.number) c.args.self.now.image c.put_part.new.octets c.args.content.now (omega arith) c.put_part.ensures.octets ∙ omega arith, tt)
+    record { whole = put_length (record_length * c.args.number) c.args.self.now.image c.put_part.new.octets c.args.content.now (omega arith) c.put_part.ensures.octets ∙ omega arith }
 
 pub returns : goal.returns
 returns c = record {

@@ -10,7 +10,7 @@ invariant_of-self c =
     let image = c.args.self.now.image in
     let from = entry_length * c.args.self.now.used in
     let same = length-set image from c.args.number in
-    (put_length (from + 1) (set image from c.args.number) c.put_part.new.octets c.args.content.now (omega arith) c.put_part.ensures.octets ∙ same ∙ omega arith, (omega arith, tt))
+    record { whole = put_length (from + 1) (set image from c.args.number) c.put_part.new.octets c.args.content.now (omega arith) c.put_part.ensures.octets ∙ same ∙ omega arith; within = omega arith }
 
 pub returns : goal.returns
 returns c = record {

@@ -1,5 +1,4 @@
-use Rattle.std.proofs.Common.{◌+◌, ◌++◌, get_or, take, refl, ap, ◌∙◌, arith, rules}
-use lib.Utf8.{encode}
+use Rattle.std.proofs.Common.{get_or, refl, ap, ◌∙◌, rules}
 use Rattle.std.proofs.lemmas.Nat.{and_mask}
 use Rattle.std.proofs.lemmas.List.{take_all}
 use Rattle.std.proofs.Output.{has_written_append, has_written_of_eq}
@@ -17,7 +16,7 @@ loop-octet-preserved g c =
       refl,
       λ plain.
           let before = c.loop-octet.invariant.1 plain in
-          let wrote = c.in_ok-write.ensures.shows before.plain refl in
+          let wrote = c.in_ok-write.ensures.writes before.plain refl in
           has_written_of_eq took _ _ _ _ (octet_written xs i high low c.loop-octet-test.true (search rules) c.capital_digit-high.ensures
           (c.capital_digit-low.ensures ∙ ap capital (and_mask (get_or xs i 0) 4)))
           (has_written_append took _ _ _ _ _ before wrote),

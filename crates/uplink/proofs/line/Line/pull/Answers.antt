@@ -10,7 +10,7 @@ invariant_of-self c =
     let turned = c.rotate_left.ensures.after ∙ ap (λ k. drop (2 + k) s.line ++ take (2 + k) s.line) n in
     let line = c.rotate_left.new.self in
     let g = subst (λ k. Ghosts line (s.used - (2 + k)) (s.count - 1)) (sym n) (take_step s (omega arith) line c.requires.some turned (omega arith)).1 in
-    (omega arith, (g.0, (g.1, (g.2, (g.3, tt)))))
+    record { few = omega arith; tight = g.0; front = g.1; whole = g.2; short = g.3 }
 
 pub returns : goal.returns
 returns c =

@@ -8,13 +8,11 @@ turned : (xs ys : List (List ℕ)) → ys ≡ drop 1 (set xs 0 (get_or xs 0 []))
 turned xs ys e = e ∙ ap (λ zs. drop 1 zs ++ take 1 zs) (set-get_or xs 0 [])
 
 pub invariant_of-self : goal.invariant_of-self
-invariant_of-self c = (
-  omega arith,
-  (
-    turned_each (λ n. n ≤ 128) c.args.self.now.lens _ 0 8 (omega arith) (omega arith) c.rotate_left-2.ensures.after c.args.self.now.short,
-    (turned_each (λ xs. length xs ≡ 128) c.args.self.now.slots _ [] 8 (omega arith) (omega arith) (turned c.args.self.now.slots _ c.rotate_left.ensures.after) c.args.self.now.wide, tt),
-  ),
-)
+invariant_of-self c = record {
+  within = omega arith;
+  short = turned_each (λ n. n ≤ 128) c.args.self.now.lens _ 0 8 (omega arith) (omega arith) c.rotate_left-2.ensures.after c.args.self.now.short;
+  wide = turned_each (λ xs. length xs ≡ 128) c.args.self.now.slots _ [] 8 (omega arith) (omega arith) (turned c.args.self.now.slots _ c.rotate_left.ensures.after) c.args.self.now.wide;
+}
 
 pub returns : goal.returns
 returns c =

@@ -1,4 +1,4 @@
-use Rattle.std.proofs.Common.{sym, arith}
+use Rattle.std.proofs.Common.{sym}
 use Rattle.uplink.specs.Lined.{length_parsed}
 use Rattle.uplink.proofs.line.methods.LineUplink.count.Goals as goal
 

@@ -1,5 +1,5 @@
-use Rattle.std.proofs.Common.{◌≡◌, length, sym, ap, ◌∙◌, arith}
-use Rattle.uplink.specs.Makes.{parsed, size}
+use Rattle.std.proofs.Common.{length, sym, ap, ◌∙◌}
+use Rattle.uplink.specs.Makes.{parsed}
 use Rattle.uplink.specs.Lined.{length_parsed}
 use Rattle.uplink.specs.Waiting.{send_answer}
 use Rattle.uplink.proofs.Answered.{may_push, sent_on, not_sent}

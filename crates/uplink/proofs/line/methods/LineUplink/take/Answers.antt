@@ -1,4 +1,4 @@
-use Rattle.std.proofs.Common.{◌≡◌, ◌<◌, ◌++◌, length, drop, sym, ap, ◌∙◌, arith}
+use Rattle.std.proofs.Common.{◌++◌, length, drop, sym, ap, ◌∙◌, arith}
 use Rattle.uplink.specs.Makes.{parsed, size}
 use Rattle.uplink.specs.Lined.{length_parsed}
 use Rattle.uplink.specs.Waiting.{take_answer, oldest}

@@ -1,4 +1,4 @@
-use Rattle.std.proofs.Common.{◌≡◌, length, get_or, take, sym, ap, ◌∙◌, arith}
+use Rattle.std.proofs.Common.{length, take, sym, ap, ◌∙◌, arith}
 use Rattle.uplink.specs.Makes.{shown}
 use Rattle.uplink.specs.Shown.{length_waiting}
 use Rattle.uplink.specs.Waiting.{send_answer}

@@ -1,4 +1,4 @@
-use Rattle.std.proofs.Common.{◌≡◌, ◌<◌, ◌++◌, length, get_or, take, drop, sym, ap, ◌∙◌, arith}
+use Rattle.std.proofs.Common.{◌++◌, length, get_or, take, drop, sym, ap, ◌∙◌, arith}
 use Rattle.uplink.specs.Makes.{shown}
 use Rattle.uplink.specs.Shown.{length_waiting}
 use Rattle.uplink.specs.Waiting.{take_answer, oldest}
