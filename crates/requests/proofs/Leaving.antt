@@ -1,8 +1,7 @@
 -- A request that leaves keeps what holds between the calls.
-use Rattle.std.proofs.Common.{◌≡◌, ℕ, zero, suc, ◌+◌, ◌<◌, ◌≤◌, Bool, true, false, cond, not, ◌&&◌, ◌||◌, ltb, leb, ◌⊎◌, List, [], ◌∷◌, ◌++◌, map, length, set, Some, None, Option, sym, refl, ap, ◌∙◌, subst, ⊎_elim, arith}
+use Rattle.std.proofs.Common.{◌≡◌, ℕ, suc, ◌+◌, ◌<◌, ◌≤◌, Bool, true, false, cond, not, ◌&&◌, ◌||◌, ltb, leb, List, [], ◌∷◌, ◌++◌, length, set, Some, None, Option, sym, refl, ap, ◌∙◌, ⊎_elim, arith}
 use Rattle.std.proofs.lemmas.Bool.{and_parts, and_from, cases_Bool, lt-ltb}
 use Rattle.std.proofs.lemmas.Bool.Decides.{nat_tests}
-use Rattle.std.specs.List.{slice_get}
 use Rattle.bars.specs.declared.bar.Bar.{Bar}
 use Rattle.bars.specs.Claimed.{among, claimed}
 use Rattle.bars.specs.Sizes.{place_count}
@@ -15,8 +14,7 @@ use Rattle.sessions.specs.Live.{live, live_keys, with_key}
 use Rattle.sessions.specs.Ptis.{waiting_ptis, is_pending, pending, next_free, is_pti}
 use Rattle.sessions.specs.Table.{session_of, changed}
 use Rattle.sessions.proofs.Differing.{stay_different}
-use Rattle.timers.specs.Timers.{TimersView, room_in}
-use Rattle.timers.specs.Parts.{name_key, slice_name_key, slice_key}
+use Rattle.timers.specs.Timers.{TimersView}
 use Rattle.ul_nas.specs.Message.{emergency}
 use Rattle.uplink.specs.Waiting.{room}
 use Rattle.requests.specs.declared.question.Question.{Question}
@@ -24,7 +22,7 @@ use Rattle.requests.specs.Decisions.{let_out_stop, timers_stop, room_stop, or_el
 use Rattle.requests.specs.Sound.{lawful_waiting, lawful_parts, lawful_session, all_lawful, claims_fit}
 use Rattle.requests.specs.State.{StateView}
 use Rattle.requests.specs.Wanted.{WantedView}
-use Rattle.requests.proofs.Rows.{Placed, placed, pending_put, lawful_put, lawful_at, live_same, live_before, fits_with}
+use Rattle.requests.proofs.Rows.{placed, pending_put, lawful_put, lawful_at, live_same, live_before, fits_with}
 
 some_none : {B : Type 0} (q : Question) → ◌≡◌ {A = Option Question} (Some q) None → B
 some_none q e = absurd (let z : ◌≡◌ {A = ℕ} 0 1 = cc in omega arith)

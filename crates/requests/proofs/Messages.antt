@@ -1,29 +1,27 @@
 -- The message of a waiting request is lawful, so it is written and can be sent.
-use Rattle.std.proofs.Common.{◌≡◌, ℕ, ◌-◌, ◌<◌, ◌≤◌, Bool, true, false, cond, not, ◌&&◌, ◌||◌, eqb, leb, List, [], ◌∷◌, ◌++◌, length, take, drop, replicate, is_ok, Some, None, Ok, Err, Option, Result, sym, refl, ap, ◌∙◌, arith}
+use Rattle.std.proofs.Common.{◌≡◌, ℕ, ◌-◌, ◌≤◌, Bool, true, false, cond, not, ◌&&◌, ◌||◌, eqb, leb, List, [], ◌∷◌, ◌++◌, length, take, drop, is_ok, Some, None, Ok, Err, Option, Result, sym, refl, ap, ◌∙◌, arith}
 use Rattle.std.proofs.lemmas.Bool.{and_parts, and_from}
 use Rattle.std.proofs.lemmas.Bool.Decides.{nat_tests}
 use Rattle.std.specs.Option.{option_map}
-use Rattle.std.specs.List.{slice_get}
 use Rattle.session.specs.declared.state.State.{State}
 use Rattle.session.specs.declared.state.State.TheVariants.{Inactive, ActivePending, Active, ModificationPending, InactivePending}
 use Rattle.session.specs.declared.messages.PendingRefusal.{PendingRefusal}
-use Rattle.session.specs.Messages.{present, request_in, pending_message, written, pending_answer, pending_buffer}
+use Rattle.session.specs.Messages.{present, request_in, written, pending_answer, pending_buffer}
 use Rattle.session.specs.Session.{SessionView, waiting_pti}
 use Rattle.session.specs.State.{waiting_of}
 use Rattle.sessions.specs.Acts.{message_of}
-use Rattle.sessions.specs.Table.{place_of, at_place, session_of}
+use Rattle.sessions.specs.Table.{at_place, session_of}
 use Rattle.ul_nas.specs.declared.message.RequestType.{RequestType}
 use Rattle.ul_nas.specs.Lawful.{lawful_slice, lawful_name, absent, lawful_elements, lawful}
 use Rattle.ul_nas.specs.Message.{Message, message, establishment_request, modification_request, release_request, emergency}
 use Rattle.ul_nas.specs.Format.{encoding}
-use Rattle.ul_nas.specs.Writing.{write_answer, over}
 use Rattle.ul_nas.proofs.Longest.{longest, accepted}
 use Rattle.uplink.specs.declared.refusal.SendRefusal.{SendRefusal}
 use Rattle.uplink.specs.declared.refusal.SendRefusal.TheVariants.{Length, Full}
 use Rattle.uplink.specs.Waiting.{sendable, room, send_answer, after_send}
 use Rattle.std.proofs.lemmas.List.{take_at}
 use Rattle.requests.specs.Sending.{sends, with_message}
-use Rattle.requests.specs.Sound.{lawful_waiting, lawful_parts, lawful_session, all_lawful}
+use Rattle.requests.specs.Sound.{lawful_waiting, lawful_parts, all_lawful}
 use Rattle.requests.proofs.Rows.{placed, lawful_at}
 
 -- an identity that has a session is 1 to 15

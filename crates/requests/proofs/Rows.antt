@@ -1,5 +1,5 @@
 -- One session of a row is replaced: what that does to the waiting requests, to the claimed keys, and to lawfulness.
-use Rattle.std.proofs.Common.{◌≡◌, ℕ, zero, suc, ◌+◌, ◌≤◌, Bool, true, false, cond, not, ◌&&◌, ◌||◌, ltb, leb, List, [], ◌∷◌, ◌++◌, map, length, set, Some, None, Option, sym, refl, ap, ◌∙◌, arith}
+use Rattle.std.proofs.Common.{◌≡◌, ℕ, zero, suc, ◌+◌, ◌≤◌, Bool, true, false, cond, ◌&&◌, ◌||◌, leb, List, [], ◌∷◌, set, Some, None, Option, sym, refl, ap, ◌∙◌, arith}
 use Rattle.std.proofs.lemmas.Bool.{and_parts, and_from}
 use Rattle.std.proofs.lemmas.Bool.Decides.{nat_tests}
 use Rattle.std.specs.List.{slice_get}
@@ -11,8 +11,8 @@ use Rattle.bars.proofs.Distincts.{pigeonhole, among_append}
 use Rattle.keys.specs.Octets.{KeyOctets, same_key}
 use Rattle.keys.specs.Lawful.{key_lawful as laws}
 use Rattle.session.specs.Session.{SessionView, waiting_pti}
-use Rattle.sessions.specs.Live.{live, live_keys, with_key}
-use Rattle.sessions.specs.Ptis.{with_pti, waiting_ptis, is_pending, pending}
+use Rattle.sessions.specs.Live.{live, live_keys}
+use Rattle.sessions.specs.Ptis.{waiting_ptis, is_pending, pending}
 use Rattle.sessions.specs.Table.{place_of, at_place, session_of, put, changed}
 use Rattle.sessions.proofs.Steps.{length_with}
 use Rattle.requests.specs.Sound.{lawful_session, all_lawful}

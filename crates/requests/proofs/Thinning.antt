@@ -1,9 +1,9 @@
 -- A session whose waiting request stays or ends, and whose keys stay: what that does to a row of sessions.
-use Rattle.std.proofs.Common.{◌≡◌, ℕ, zero, suc, ◌+◌, Bool, true, false, cond, not, ◌&&◌, ◌||◌, leb, ◌⊎◌, List, [], ◌∷◌, length, set, Some, None, Option, sym, refl, ap, ◌∙◌, inl, inr, ⊎_elim, arith}
+use Rattle.std.proofs.Common.{◌≡◌, ℕ, zero, suc, ◌+◌, Bool, true, false, cond, not, ◌&&◌, ◌||◌, leb, ◌⊎◌, List, [], ◌∷◌, set, Some, None, Option, sym, refl, ap, ◌∙◌, inl, inr, ⊎_elim, arith}
 use Rattle.std.proofs.lemmas.Bool.{and_parts, and_from}
 use Rattle.std.specs.List.{slice_get}
 use Rattle.bars.specs.declared.bar.Bar.{Bar}
-use Rattle.bars.specs.Claimed.{among, keys_of, claimed_keys, claimed}
+use Rattle.bars.specs.Claimed.{among, keys_of, claimed}
 use Rattle.bars.specs.Sizes.{place_count}
 use Rattle.bars.proofs.Distincts.{among_append, among_same}
 use Rattle.keys.specs.Octets.{KeyOctets, same_key}

@@ -1,5 +1,5 @@
 -- Which question stops a request, if one does.
-use Rattle.std.specs.Prelude.{ℕ, Bool, cond, not, List, Some, None, Option, nat_lt}
+use Rattle.std.specs.Prelude.{ℕ, cond, not, Some, None, Option, nat_lt}
 use Rattle.std.specs.Option.{option_map}
 use Rattle.keys.specs.Octets.{KeyOctets}
 use Rattle.session.specs.Session.{SessionView, name_key_of, slice_name_key_of, slice_key_of}

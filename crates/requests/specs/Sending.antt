@@ -1,5 +1,5 @@
 -- A message that is sent where there is room for it.
-use Rattle.std.specs.Prelude.{ℕ, Bool, true, false, cond, ◌&&◌, List, [], ◌∷◌, ◌++◌, length, Some, None, Option}
+use Rattle.std.specs.Prelude.{ℕ, Bool, false, cond, List, [], ◌∷◌, ◌++◌, length, Some, None, Option}
 use Rattle.sessions.specs.Acts.{message_of}
 use Rattle.sessions.specs.Table.{session_of}
 use Rattle.ul_nas.specs.Format.{encoding}

@@ -1,5 +1,5 @@
 -- What holds of a switched-on handset between its calls.
-use Rattle.std.specs.Prelude.{ℕ, Bool, true, false, not, ◌&&◌, ◌||◌, List, [], ◌∷◌, length, Some, None, Option, ◌==◌, nat_le}
+use Rattle.std.specs.Prelude.{ℕ, Bool, true, not, ◌&&◌, ◌||◌, List, [], ◌∷◌, length, Some, None, Option, ◌==◌, nat_le}
 use Rattle.keys.specs.Lengths.{slice_held}
 use Rattle.session.specs.Session.{SessionView, waiting_pti, name_key_of, slice_name_key_of, slice_key_of}
 use Rattle.sessions.specs.Live.{live_keys}

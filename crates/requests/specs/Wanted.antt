@@ -1,5 +1,5 @@
 -- What an establishment request asks for, and the questions 1 to 4.
-use Rattle.std.specs.Prelude.{ℕ, Bool, true, false, cond, not, ◌&&◌, ◌||◌, List, [], length, is_some, Some, None, Ok, Err, Option, Result}
+use Rattle.std.specs.Prelude.{ℕ, Bool, true, cond, not, ◌&&◌, ◌||◌, List, [], length, is_some, Some, None, Ok, Err, Option, Result}
 use Rattle.keys.specs.Lengths.{name_length, slice_length}
 use Rattle.keys.specs.Parts.{name_octets, slice_octets}
 use Rattle.ul_nas.specs.declared.message.RequestType.{RequestType}
