@@ -43,12 +43,12 @@ mod tests {
         message: Received,
         after: State,
         outcome: Outcome,
-    ) -> Result<(), Fail> {
+        note: &str,
+    ) {
         let mut session = Session::unused();
         session.state = before;
-        assert_eq!(rt; session.take_in(&message), outcome);
-        assert_eq!(rt; session.state, after);
-        Ok(())
+        assert_eq!(rt; session.take_in(&message), outcome, "{note}");
+        assert_eq!(rt; session.state, after, "{note}");
     }
 
     fn effect(ended: Ended, reply: Option<Reply>) -> Outcome {
@@ -60,17 +60,17 @@ mod tests {
     }
 
     // A message is passed over.
-    fn passes(rt: &impl Abort, before: State, message: Received) -> Result<(), Fail> {
+    fn passes(rt: &impl Abort, before: State, message: Received, note: &str) {
         let passed = Outcome {
             ended: Ended::Nothing,
             took_effect: false,
             reply: None,
         };
-        takes(rt, before, message, before, passed)
+        takes(rt, before, message, before, passed, note);
     }
 
     // An inactive session answers D6 to a message of the network, and passes it over with the 5GMM cause.
-    fn answers_status(rt: &impl Abort, pti: u8, content: Content) -> Result<(), Fail> {
+    fn answers_status(rt: &impl Abort, pti: u8, content: Content, note: &str) {
         let status = Outcome {
             ended: Ended::Nothing,
             took_effect: false,
@@ -82,8 +82,9 @@ mod tests {
             message(pti, content, None),
             State::Inactive,
             status,
-        )?;
-        passes(rt, State::Inactive, message(pti, content, Some(0x16)))
+            note,
+        );
+        passes(rt, State::Inactive, message(pti, content, Some(0x16)), note);
     }
 
     const C2: Content = Content::EstablishmentAccept { timer: None };
@@ -117,7 +118,7 @@ mod tests {
 
     // The answers to a waiting request; with another PTI, with the 5GMM cause, or without a request they are none.
     #[test]
-    fn answers(rt: HostRuntime) -> Result<(), Fail> {
+    fn answers(rt: HostRuntime) {
         let establishing = State::ActivePending(SEVEN);
         let modifying = State::ModificationPending(SEVEN);
         let releasing = State::InactivePending(SEVEN);
@@ -152,22 +153,39 @@ mod tests {
             ),
         ];
         for (before, content, after, outcome) in table {
-            takes(&rt, before, message(7, content, None), after, outcome).note("answer")?;
-            passes(&rt, before, message(8, content, None)).note("another PTI")?;
-            passes(&rt, before, message(7, content, Some(0x16))).note("5GMM cause")?;
-            passes(&rt, before, message(7, D6, None)).note("status")?;
-            passes(&rt, State::Active, message(7, content, None)).note("no request")?;
-            answers_status(&rt, 7, content).note("inactive")?;
+            takes(
+                &rt,
+                before,
+                message(7, content, None),
+                after,
+                outcome,
+                "answer",
+            );
+            passes(&rt, before, message(8, content, None), "another PTI");
+            passes(&rt, before, message(7, content, Some(0x16)), "5GMM cause");
+            passes(&rt, before, message(7, D6, None), "status");
+            passes(&rt, State::Active, message(7, content, None), "no request");
+            answers_status(&rt, 7, content, "inactive");
         }
-        passes(&rt, establishing, message(7, CB, None))?;
-        passes(&rt, modifying, message(7, D3, None))?;
-        passes(&rt, releasing, message(7, CB, None))?;
-        passes(&rt, State::Inactive, message(7, D6, None))
+        passes(
+            &rt,
+            establishing,
+            message(7, CB, None),
+            "CB while establishing",
+        );
+        passes(&rt, modifying, message(7, D3, None), "D3 while modifying");
+        passes(&rt, releasing, message(7, CB, None), "CB while releasing");
+        passes(
+            &rt,
+            State::Inactive,
+            message(7, D6, None),
+            "D6 while inactive",
+        );
     }
 
     // What the network begins by itself, with PTI 0.
     #[test]
-    fn commands(rt: HostRuntime) -> Result<(), Fail> {
+    fn commands(rt: HostRuntime) {
         let modifying = State::ModificationPending(SEVEN);
         let releasing = State::InactivePending(SEVEN);
         let complete = Some(Reply::ModificationComplete);
@@ -200,21 +218,31 @@ mod tests {
             ),
         ];
         for (before, content, after, outcome) in table {
-            takes(&rt, before, message(0, content, None), after, outcome).note("command")?;
-            passes(&rt, before, message(8, content, None)).note("another PTI")?;
-            passes(&rt, before, message(0, content, Some(0x16))).note("5GMM cause")?;
-            passes(&rt, State::ActivePending(SEVEN), message(0, content, None)).note(
+            takes(
+                &rt,
+                before,
+                message(0, content, None),
+                after,
+                outcome,
+                "command",
+            );
+            passes(&rt, before, message(8, content, None), "another PTI");
+            passes(&rt, before, message(0, content, Some(0x16)), "5GMM cause");
+            passes(
+                &rt,
+                State::ActivePending(SEVEN),
+                message(0, content, None),
                 "establishing",
-            )?;
-            answers_status(&rt, 0, content).note("inactive")?;
+            );
+            answers_status(&rt, 0, content, "inactive");
         }
-        passes(&rt, releasing, message(0, CB, None))?;
-        passes(&rt, State::Active, message(0, C2, None))
+        passes(&rt, releasing, message(0, CB, None), "CB while releasing");
+        passes(&rt, State::Active, message(0, C2, None), "C2 while active");
     }
 
     // Requests that come back with the 5GMM cause.
     #[test]
-    fn returned_requests(rt: HostRuntime) -> Result<(), Fail> {
+    fn returned_requests(rt: HostRuntime) {
         let establishing = State::ActivePending(SEVEN);
         let modifying = State::ModificationPending(SEVEN);
         let releasing = State::InactivePending(SEVEN);
@@ -246,15 +274,24 @@ mod tests {
                 message(7, content, Some(0x16)),
                 after,
                 returned,
-            )
-            .note("returned")?;
-            passes(&rt, before, message(7, content, None)).note("no 5GMM cause")?;
-            passes(&rt, before, message(8, content, Some(0x16))).note("another PTI")?;
-            passes(&rt, other, message(7, content, Some(0x16))).note("another state")?;
-            passes(&rt, State::Active, message(7, content, Some(0x16))).note("active")?;
-            passes(&rt, State::Inactive, message(7, content, Some(0x16))).note("inactive")?;
+                "returned",
+            );
+            passes(&rt, before, message(7, content, None), "no 5GMM cause");
+            passes(&rt, before, message(8, content, Some(0x16)), "another PTI");
+            passes(&rt, other, message(7, content, Some(0x16)), "another state");
+            passes(
+                &rt,
+                State::Active,
+                message(7, content, Some(0x16)),
+                "active",
+            );
+            passes(
+                &rt,
+                State::Inactive,
+                message(7, content, Some(0x16)),
+                "inactive",
+            );
         }
-        Ok(())
     }
 
     // What messages do to the back-off timers.
