@@ -30,7 +30,7 @@ WalkFindsFirst = (xs : List ℕ) (place : ℕ) (f : Found)
 -- Behind whole elements the first octet at fault decides, whatever follows it: an identifier 00 to 0F at its place;
 -- 37 of another length than 1 at its length octet; an element of which the layer holds only the front zs, one past
 -- the layer's last octet.
-pub record Refuses-behind (es : List Item) (place : ℕ) : Type 0 where
+pub record RefusesBehind (es : List Item) (place : ℕ) : Type 0 where
   pub reserved : (x : ℕ) (ys : List ℕ) → x < 0x10
       → walked (octets_of es ++ (x ∷ ys)) 0 place nothing ≡ Err (ReservedIdentifier (place + length (octets_of es)))
   pub timer : (n : ℕ) (ys : List ℕ) → (n ≢ 1)
@@ -40,7 +40,7 @@ pub record Refuses-behind (es : List Item) (place : ℕ) : Type 0 where
 
 -- The law of the walk's refusals.
 abbrev pub WalkRefusesFirstFault : Type 0
-WalkRefusesFirstFault = (es : List Item) (place : ℕ) → AllLawful es → Refuses-behind es place
+WalkRefusesFirstFault = (es : List Item) (place : ℕ) → AllLawful es → RefusesBehind es place
 
 -- The law of the reader: its answer to xs is Ok exactly for a message of the format, and then it is what that message says.
 abbrev pub AcceptsFormat : List ℕ → Result Received MessageFault → Type 0

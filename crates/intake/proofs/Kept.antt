@@ -80,12 +80,12 @@ pub record Apart (t : TimersView) : Type 0 where
   pub t3584 : apart t.t3584 ≡ true
   pub t3585 : apart t.t3585 ≡ true
 
-record Grown-all (k : KeyOctets) (t t' : TimersView) : Type 0 where
+record GrownAll (k : KeyOctets) (t t' : TimersView) : Type 0 where
   t3396 : Grown (name_key k) t.t3396 t'.t3396
   t3584 : Grown (slice_name_key k) t.t3584 t'.t3584
   t3585 : Grown (slice_key k) t.t3585 t'.t3585
 
-grown_by : (rule : TimerRule) (k : KeyOctets) (t : TimersView) → Apart t → Grown-all k t (ruled rule k t)
+grown_by : (rule : TimerRule) (k : KeyOctets) (t : TimersView) → Apart t → GrownAll k t (ruled rule k t)
 grown_by NoMark k t a = record { t3396 = grown_still (name_key k) t.t3396; t3584 = grown_still (slice_name_key k) t.t3584; t3585 = grown_still (slice_key k) t.t3585 }
 grown_by (Mark T3396 x) k t a = record { t3396 = grows_set (name_key k) t.t3396 a.t3396 x; t3584 = grown_still (slice_name_key k) t.t3584; t3585 = grown_still (slice_key k) t.t3585 }
 grown_by (Mark T3584 x) k t a = record { t3396 = grown_still (name_key k) t.t3396; t3584 = grows_set (slice_name_key k) t.t3584 a.t3584 x; t3585 = grown_still (slice_key k) t.t3585 }

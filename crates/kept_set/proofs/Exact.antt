@@ -20,7 +20,7 @@ use Rattle.timers.specs.Timers.{TimersView, no_parts, no_timers}
 use Rattle.timers.specs.Kept.{table_of, with_kept, takes_kept}
 use Rattle.kept_set.specs.Trailer.{trailer_number, trailer_card, trailer_count, last_records}
 use Rattle.kept_set.specs.Loading.{with_record, and_then, loaded, kept_timers}
-use Rattle.kept_set.specs.Sets.{all_lawful, kept_among, no_key_twice, of_kind, timer_kept, LawfulSet, RestoredSet, RestoresExactly}
+use Rattle.kept_set.specs.Sets.{all_lawful, kept_among, no_key_twice, of_kind, timer_kept, LawfulSet, RestoredSet, EverySetRestoresExactly}
 use Rattle.kept_set.proofs.OfKinds.{OneOf, each, lawful_kind, Good, good_then, timer_then, count_then}
 use Rattle.kept_set.proofs.Returns.{none_on, none_twice, none_standing, or_stopped}
 
@@ -279,7 +279,7 @@ module _ (card : List ℕ) (records : List (List ℕ)) where
   of_none None e none = refl
   of_none (Some t) e none = let s = of_loaded t e in absurd (none s.0 s.1)
 
-pub restores_exactly : RestoresExactly
+pub restores_exactly : EverySetRestoresExactly
 restores_exactly card records = record {
   lawful = of_lawful card records;
   only = of_loaded card records;

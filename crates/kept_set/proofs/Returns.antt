@@ -18,7 +18,7 @@ use Rattle.timers.specs.Timers.{TimersView, free_places, no_parts, no_timers}
 use Rattle.timers.specs.Kept.{kept_bar, with_table, standing_in}
 use Rattle.kept_set.specs.Trailer.{trailer_number, trailer, trailer_card, trailer_count, last_records}
 use Rattle.kept_set.specs.Loading.{loaded, kept_timers}
-use Rattle.kept_set.specs.Storing.{running_bars, kept_bars, stored_bars, stored}
+use Rattle.kept_set.specs.Storing.{running_bars, kept_bars, stored_bars}
 use Rattle.kept_set.specs.Laws.{lawful_bars, SoundTable, FullTimers, SoundTimers, SameTimers, LoadsBack, AnotherCard}
 use Rattle.kept_set.proofs.Stores.{present_most, running_present}
 use Rattle.kept_set.proofs.Tables.{Fits, Filled, fill}

@@ -9,7 +9,7 @@ use Rattle.bars.specs.declared.bar.Bar.{Bar}
 use Rattle.bars.specs.Bars.{stands, timer_on, free, apart, standing, imposed, reactivated, deactivated_lifted}
 use Rattle.bars.specs.Sizes.{place_count}
 use Rattle.bars.proofs.Rows.{free_same, timer_free, free_retimed}
-use Rattle.bar_record.specs.Record.{Kept, key_kept, seconds_kept, written, lawful}
+use Rattle.bar_record.specs.Record.{Kept, key_kept, seconds_kept, written}
 use Rattle.bar_record.proofs.Telling.{told_written}
 use Rattle.timers.specs.Timers.{TimersView}
 use Rattle.timers.specs.Kept.{takes, table_of, with_table, with_kept}

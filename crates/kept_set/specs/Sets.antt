@@ -59,5 +59,6 @@ pub record RestoresExactly (card : List ℕ) (records : List (List ℕ)) : Type 
   pub only : (t : TimersView) → kept_timers card records ≡ Some t → (bars : List Kept) × LawfulSet card records bars
   pub otherwise : ((bars : List Kept) → LawfulSet card records bars → ⊥) → kept_timers card records ≡ None
 
-abbrev pub RestoresExactly : Type 0
-RestoresExactly = (card : List ℕ) (records : List (List ℕ)) → RestoresExactly card records
+-- this of every card and every list of records
+abbrev pub EverySetRestoresExactly : Type 0
+EverySetRestoresExactly = (card : List ℕ) (records : List (List ℕ)) → RestoresExactly card records

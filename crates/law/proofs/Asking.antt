@@ -26,7 +26,7 @@ use Rattle.law.specs.Timers as law
 use Rattle.law.specs.Law.{early}
 use Rattle.law.proofs.Sessions.{waits, Found, found}
 use Rattle.law.proofs.Books.{Booked, booked_out, tallied_out}
-use Rattle.law.proofs.Requests.{Given, given, establish_full, modify_full, release_full, Free-establish, free_establish, Free-other, free_modify, free_release}
+use Rattle.law.proofs.Requests.{Given, given, establish_full, modify_full, release_full, FreeEstablish, free_establish, FreeOther, free_modify, free_release}
 use Rattle.law.proofs.Claims.{data_of, Shrinks}
 use Rattle.law.proofs.Bars.{Timed, shrinks_set, timed_still, timed_established}
 use Rattle.law.proofs.Barring.{told, barring_refused, barring_asked, barring_modify, room_for}
@@ -82,7 +82,7 @@ module _ (before : List (List ℕ)) (h : List Moment) (s : StateView) (q rs : Li
       ∙ ap (λ z. Some (message j pti (establishment_request w.request_type (present w.slice) z))) (sym g.name_present)
 
   -- an establishment that no question stops
-  let_out_establish : (j type : ℕ) (slice name : Option (List ℕ)) (w : WantedView) → Given type slice name w → (v : SessionView) → Free-establish s j w (length q) v → (pti : ℕ)
+  let_out_establish : (j type : ℕ) (slice name : Option (List ℕ)) (w : WantedView) → Given type slice name w → (v : SessionView) → FreeEstablish s j w (length q) v → (pti : ℕ)
       → BarringOf (establish j type slice name) (LetOut pti) h
       → Leads before h (establish j type slice name) (record { answer = LetOut pti; after = record { state = Some (let_out_establishment j w pti s); waiting = q ++ encoding (asked_message j w pti) ∷ []; records = rs } })
   let_out_establish j type slice name w g v free pti barring =
@@ -122,7 +122,7 @@ module _ (before : List (List ℕ)) (h : List Moment) (s : StateView) (q rs : Li
           (λ same. absurd (let x = sym soon ∙ ap early same in let z : ◌≡◌ {A = ℕ} 0 1 = cc in omega arith))
 
   -- a modification or a release that no question stops
-  module _ (j pti : ℕ) (v : SessionView) (free : Free-other s j (length q) v) where
+  module _ (j pti : ℕ) (v : SessionView) (free : FreeOther s j (length q) v) where
     moved_data : (y : SessionView) (f : Found s.sessions j v) → data_of y ≡ data_of v → (i : ℕ) → i < 15 → Shrinks (get_or s.sessions i unused) (get_or (set s.sessions f.place y) i unused)
     moved_data y f same = shrinks_set s.sessions f.place v y (full before h s q rs d) f.within f.there (record { same_data = same; lives = λ _. (busy v free.acts).1 })
 

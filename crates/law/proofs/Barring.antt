@@ -31,7 +31,7 @@ use Rattle.law.specs.Moments.{Moment}
 use Rattle.law.specs.Requests.{now, Asked, asked}
 use Rattle.law.specs.Timers.{key_of, strokes, barred}
 use Rattle.law.specs.Timers as law
-use Rattle.law.specs.Law.{early, ReachesTimers, Stopped-by-timers}
+use Rattle.law.specs.Law.{early, ReachesTimers, StoppedByTimers}
 use Rattle.law.proofs.Sessions.{found}
 use Rattle.law.proofs.Requests.{Given}
 use Rattle.law.proofs.Strokes.{left_stands}
@@ -66,7 +66,7 @@ abbrev first : Bool → Bool → Bool → Option TimerKind
 first a b c = cond a (Some T3396) (cond b (Some T3584) (cond c (Some T3585) None))
 
 stopped_by : (parts : KeyOctets) (h : List Moment) (a b c : Bool) → barred T3396 parts h ≡ a → barred T3584 parts h ≡ b → barred T3585 parts h ≡ c
-    → (rest : Option Question) → others rest ≡ true → (pti : ℕ) → Stopped-by-timers parts (told (or_else (option_map timer_question (first a b c)) rest) pti) h
+    → (rest : Option Question) → others rest ≡ true → (pti : ℕ) → StoppedByTimers parts (told (or_else (option_map timer_question (first a b c)) rest) pti) h
 stopped_by parts h true b c ea eb ec rest o pti = record {
   t3396 = ((λ _. ea), λ _. refl);
   t3584 = ((λ e. absurd (let z : ◌≡◌ {A = ℕ} 0 1 = cc in omega arith)), λ e. absurd (let x = sym ea ∙ e.0 in let z : ◌≡◌ {A = ℕ} 0 1 = cc in omega arith));
@@ -107,21 +107,21 @@ module _ (h : List Moment) (s : StateView) (d : Timed h s.sessions s.timers s.ca
   barred_is : (kind : TimerKind) (k : KeyOctets) → barred kind k h ≡ stands (timer_on (table kind s.timers) (key_of kind k))
   barred_is kind k = sym (left_stands (law.imposed (strokes kind (key_of kind k) h)) (law.counted (strokes kind (key_of kind k) h))) ∙ ap stands (sym (d.timers_are kind (key_of kind k)))
 
-  timers_stopped : (k : KeyOctets) (rest : Option Question) → others rest ≡ true → (pti : ℕ) → Stopped-by-timers k (told (or_else (timers_stop s k) rest) pti) h
+  timers_stopped : (k : KeyOctets) (rest : Option Question) → others rest ≡ true → (pti : ℕ) → StoppedByTimers k (told (or_else (timers_stop s k) rest) pti) h
   timers_stopped k rest o pti = stopped_by k h _ _ _ (barred_is T3396 k) (barred_is T3584 k) (barred_is T3585 k) rest o pti
 
   -- establish
   establish_barring : (w : WantedView) (n pti : ℕ) (parts : KeyOctets) → parts ≡ request_keys s w → emergency w.request_type ≡ false → (o : Option SessionView)
-      → ReachesTimers (told (establish_on s o w n) pti) → Stopped-by-timers parts (told (establish_on s o w n) pti) h
+      → ReachesTimers (told (establish_on s o w n) pti) → StoppedByTimers parts (told (establish_on s o w n) pti) h
   establish_barring w n pti parts same calm None = λ e. absurd (let x = e question.Identity refl in let z : ◌≡◌ {A = ℕ} 0 1 = cc in omega arith)
   establish_barring w n pti parts same calm (Some v) =
-      cond_both (inactive v.state) _ _ (λ o. ReachesTimers (told o pti) → Stopped-by-timers parts (told o pti) h)
+      cond_both (inactive v.state) _ _ (λ o. ReachesTimers (told o pti) → StoppedByTimers parts (told o pti) h)
       (λ _ _.
       let k = request_keys s w in
       let made : or_else (keys_stop s w) (let_out_stop s n) ≡ or_else (timers_stop s k) (or_else (room_stop s k) (let_out_stop s n)) =
       ap (λ o. or_else o (let_out_stop s n)) (cond-false (emergency w.request_type) None (or_else (timers_stop s k) (room_stop s k)) calm) ∙ or_assoc (timers_stop s k) (room_stop s k) (let_out_stop s n) in
-      subst (λ p. Stopped-by-timers p (told (or_else (keys_stop s w) (let_out_stop s n)) pti) h) (sym same)
-      (subst (λ o. Stopped-by-timers k (told o pti) h) (sym made) (timers_stopped k (or_else (room_stop s k) (let_out_stop s n)) (or_others (room_stop s k) (let_out_stop s n) (room_others s k) (let_out_others s n)) pti)))
+      subst (λ p. StoppedByTimers p (told (or_else (keys_stop s w) (let_out_stop s n)) pti) h) (sym same)
+      (subst (λ o. StoppedByTimers k (told o pti) h) (sym made) (timers_stopped k (or_else (room_stop s k) (let_out_stop s n)) (or_others (room_stop s k) (let_out_stop s n) (room_others s k) (let_out_others s n)) pti)))
       (λ _ e. absurd (let x = e question.Inactive refl in let z : ◌≡◌ {A = ℕ} 0 1 = cc in omega arith))
 
   calm_type : (type : ℕ) (t : RequestType) → (eqb type 1 || eqb type 2) ≡ true → request_type_of type ≡ Some t → emergency t ≡ false
@@ -140,7 +140,7 @@ module _ (h : List Moment) (s : StateView) (d : Timed h s.sessions s.timers s.ca
   barring_refused type slice name q e = wanted_early (request_type_of type) slice name q e
 
   pub barring_asked : (j type : ℕ) (slice name : Option (List ℕ)) (w : WantedView) (n pti : ℕ) → Given type slice name w → (eqb type 1 || eqb type 2) ≡ true → ReachesTimers (told (establish_stop s j w n) pti)
-      → Stopped-by-timers (record { network = (now h).network; slice = octets_in slice; name = octets_in name }) (told (establish_stop s j w n) pti) h
+      → StoppedByTimers (record { network = (now h).network; slice = octets_in slice; name = octets_in name }) (told (establish_stop s j w n) pti) h
   barring_asked j type slice name w n pti g e reaches =
       let parts : record { network = (now h).network; slice = octets_in slice; name = octets_in name } ≡ request_keys s w =
       ap (λ z. record { network = z; slice = octets_in slice; name = octets_in name }) (sym d.network_is)
@@ -150,23 +150,23 @@ module _ (h : List Moment) (s : StateView) (d : Timed h s.sessions s.timers s.ca
 
   -- modify
   modify_barring : (n pti : ℕ) (a : Asked) → emergency a.request_type ≡ false → (o : Option SessionView) → ((v : SessionView) → o ≡ Some v → active v.state ≡ true → a ≡ data_of v)
-      → ReachesTimers (told (modify_on s o n) pti) → Stopped-by-timers a.parts (told (modify_on s o n) pti) h
+      → ReachesTimers (told (modify_on s o n) pti) → StoppedByTimers a.parts (told (modify_on s o n) pti) h
   modify_barring n pti a calm None f = λ e. absurd (let x = e question.Identity refl in let z : ◌≡◌ {A = ℕ} 0 1 = cc in omega arith)
   modify_barring n pti a calm (Some v) f =
-      cond_both (active v.state) _ _ (λ o. ReachesTimers (told o pti) → Stopped-by-timers a.parts (told o pti) h)
+      cond_both (active v.state) _ _ (λ o. ReachesTimers (told o pti) → StoppedByTimers a.parts (told o pti) h)
       (λ acts _.
       let same = f v refl acts in
       let made : or_else (own_timers_stop s v) (let_out_stop s n) ≡ or_else (timers_stop s (session_parts v)) (let_out_stop s n) =
       ap (λ o. or_else o (let_out_stop s n)) (cond-false (emergency v.request_type) None (timers_stop s (session_parts v)) (ap (λ a. emergency a.request_type) (sym same) ∙ calm)) in
-      subst (λ a. Stopped-by-timers a.parts (told (or_else (own_timers_stop s v) (let_out_stop s n)) pti) h) (sym same)
-      (subst (λ o. Stopped-by-timers (session_parts v) (told o pti) h) (sym made) (timers_stopped (session_parts v) (let_out_stop s n) (let_out_others s n) pti)))
+      subst (λ a. StoppedByTimers a.parts (told (or_else (own_timers_stop s v) (let_out_stop s n)) pti) h) (sym same)
+      (subst (λ o. StoppedByTimers (session_parts v) (told o pti) h) (sym made) (timers_stopped (session_parts v) (let_out_stop s n) (let_out_others s n) pti)))
       (λ _ e. absurd (let x = e question.Active refl in let z : ◌≡◌ {A = ℕ} 0 1 = cc in omega arith))
 
   active_lives : (v : SessionView) → active v.state ≡ true → inactive v.state ≡ false
   active_lives v e = grind (arith, nat_tests)
 
   pub barring_modify : (j n pti : ℕ) (a : Asked) → length s.sessions ≡ 15 → asked j h ≡ Some a → emergency a.request_type ≡ false
-      → ReachesTimers (told (modify_stop s j n) pti) → Stopped-by-timers a.parts (told (modify_stop s j n) pti) h
+      → ReachesTimers (told (modify_stop s j n) pti) → StoppedByTimers a.parts (told (modify_stop s j n) pti) h
   barring_modify j n pti a full e calm reaches =
       modify_barring n pti a calm (session_of j s.sessions)
       (λ v there acts.

@@ -24,7 +24,7 @@ use Rattle.law.specs.Requests.{told_by, Now, then, now, Asked, asks, asked, even
 use Rattle.law.specs.Tallies.{more, by_message}
 use Rattle.law.specs.Timers.{stroke, strokes}
 use Rattle.law.specs.Timers as law
-use Rattle.law.specs.Law.{ReachesTimers, Stopped-by-timers, Barring, Left, Held, Sending, Kept}
+use Rattle.law.specs.Law.{ReachesTimers, StoppedByTimers, Barring, Left, Held, Sending, Kept}
 use Rattle.law.proofs.Sessions.{waits}
 use Rattle.law.proofs.Ends.{ends_in_time}
 use Rattle.law.proofs.Books.{Booked, balanced, no_event, tallied_none}
@@ -83,8 +83,8 @@ abbrev pub BarringOf : Said → Answer → List Moment → Type 0
 BarringOf (switch_on card network reading off) a h = Unit {0}
 BarringOf switch_off a h = Unit {0}
 BarringOf (establish identity type slice name) a h =
-    (eqb type 1 || eqb type 2) ≡ true → ReachesTimers a → Stopped-by-timers (record { network = (now h).network; slice = octets_in slice; name = octets_in name }) a h
-BarringOf (modify identity) a h = (e : Asked) → asked identity h ≡ Some e → emergency e.request_type ≡ false → ReachesTimers a → Stopped-by-timers e.parts a h
+    (eqb type 1 || eqb type 2) ≡ true → ReachesTimers a → StoppedByTimers (record { network = (now h).network; slice = octets_in slice; name = octets_in name }) a h
+BarringOf (modify identity) a h = (e : Asked) → asked identity h ≡ Some e → emergency e.request_type ≡ false → ReachesTimers a → StoppedByTimers e.parts a h
 BarringOf (release identity) a h = Unit {0}
 BarringOf (take_in octets) a h = Unit {0}
 BarringOf (time_reading reading) a h = Unit {0}

@@ -134,7 +134,7 @@ pub release_full : (s : StateView) (j n : ℕ) → release_stop s j n ≡ Some q
 release_full s j n e = release_waiting s (session_of j s.sessions) n e
 
 -- a request that no question stops
-pub record Free-establish (s : StateView) (j : ℕ) (w : WantedView) (n : ℕ) (v : SessionView) : Type 0 where
+pub record FreeEstablish (s : StateView) (j : ℕ) (w : WantedView) (n : ℕ) (v : SessionView) : Type 0 where
   pub there : session_of j s.sessions ≡ Some v
   pub rests : inactive v.state ≡ true
   pub allowed : keys_stop s w ≡ None
@@ -150,37 +150,37 @@ or_none (Some q) r e = absurd (let z : ◌≡◌ {A = ℕ} 0 1 = cc in omega ari
 no_none : {q : Question} → Some q ≡ None → ⊥
 no_none e = let z : ◌≡◌ {A = ℕ} 0 1 = cc in omega arith
 
-establish_none : (s : StateView) (j : ℕ) (w : WantedView) (n : ℕ) (o : Option SessionView) → session_of j s.sessions ≡ o → establish_on s o w n ≡ None → (v : SessionView) × Free-establish s j w n v
+establish_none : (s : StateView) (j : ℕ) (w : WantedView) (n : ℕ) (o : Option SessionView) → session_of j s.sessions ≡ o → establish_on s o w n ≡ None → (v : SessionView) × FreeEstablish s j w n v
 establish_none s j w n None f = λ e. absurd (no_none e)
 establish_none s j w n (Some v) f =
-    cond_both (inactive v.state) _ _ (λ o. o ≡ None → (v : SessionView) × Free-establish s j w n v)
+    cond_both (inactive v.state) _ _ (λ o. o ≡ None → (v : SessionView) × FreeEstablish s j w n v)
     (λ i e. let k = or_none (keys_stop s w) (let_out_stop s n) e in (v, record { there = f; rests = i; allowed = k.0; has_room = let_out_room s n k.1 }))
     (λ _ e. absurd (no_none e))
 
-pub free_establish : (s : StateView) (j : ℕ) (w : WantedView) (n : ℕ) → establish_stop s j w n ≡ None → (v : SessionView) × Free-establish s j w n v
+pub free_establish : (s : StateView) (j : ℕ) (w : WantedView) (n : ℕ) → establish_stop s j w n ≡ None → (v : SessionView) × FreeEstablish s j w n v
 free_establish s j w n e = establish_none s j w n (session_of j s.sessions) refl e
 
-pub record Free-other (s : StateView) (j : ℕ) (n : ℕ) (v : SessionView) : Type 0 where
+pub record FreeOther (s : StateView) (j : ℕ) (n : ℕ) (v : SessionView) : Type 0 where
   pub there : session_of j s.sessions ≡ Some v
   pub acts : active v.state ≡ true
   pub has_room : n < 8
 
-modify_none : (s : StateView) (j n : ℕ) (o : Option SessionView) → session_of j s.sessions ≡ o → modify_on s o n ≡ None → (v : SessionView) × Free-other s j n v
+modify_none : (s : StateView) (j n : ℕ) (o : Option SessionView) → session_of j s.sessions ≡ o → modify_on s o n ≡ None → (v : SessionView) × FreeOther s j n v
 modify_none s j n None f = λ e. absurd (no_none e)
 modify_none s j n (Some v) f =
-    cond_both (active v.state) _ _ (λ o. o ≡ None → (v : SessionView) × Free-other s j n v)
+    cond_both (active v.state) _ _ (λ o. o ≡ None → (v : SessionView) × FreeOther s j n v)
     (λ i e. let k = or_none (own_timers_stop s v) (let_out_stop s n) e in (v, record { there = f; acts = i; has_room = let_out_room s n k.1 }))
     (λ _ e. absurd (no_none e))
 
-release_none : (s : StateView) (j n : ℕ) (o : Option SessionView) → session_of j s.sessions ≡ o → release_on s o n ≡ None → (v : SessionView) × Free-other s j n v
+release_none : (s : StateView) (j n : ℕ) (o : Option SessionView) → session_of j s.sessions ≡ o → release_on s o n ≡ None → (v : SessionView) × FreeOther s j n v
 release_none s j n None f = λ e. absurd (no_none e)
 release_none s j n (Some v) f =
-    cond_both (active v.state) _ _ (λ o. o ≡ None → (v : SessionView) × Free-other s j n v)
+    cond_both (active v.state) _ _ (λ o. o ≡ None → (v : SessionView) × FreeOther s j n v)
     (λ i e. (v, record { there = f; acts = i; has_room = let_out_room s n e }))
     (λ _ e. absurd (no_none e))
 
-pub free_modify : (s : StateView) (j n : ℕ) → modify_stop s j n ≡ None → (v : SessionView) × Free-other s j n v
+pub free_modify : (s : StateView) (j n : ℕ) → modify_stop s j n ≡ None → (v : SessionView) × FreeOther s j n v
 free_modify s j n e = modify_none s j n (session_of j s.sessions) refl e
 
-pub free_release : (s : StateView) (j n : ℕ) → release_stop s j n ≡ None → (v : SessionView) × Free-other s j n v
+pub free_release : (s : StateView) (j n : ℕ) → release_stop s j n ≡ None → (v : SessionView) × FreeOther s j n v
 free_release s j n e = release_none s j n (session_of j s.sessions) refl e

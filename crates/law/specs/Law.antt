@@ -30,7 +30,7 @@ abbrev pub ReachesTimers : Answer → Type 0
 ReachesTimers a = (q : Question) → a ≡ Stopped q → early q ≡ false
 
 -- a request is stopped by the first of T3396, T3584 and T3585 that the calls so far leave on its key, and by no other of them
-pub record Stopped-by-timers (parts : KeyOctets) (a : Answer) (h : List Moment) : Type 0 where
+pub record StoppedByTimers (parts : KeyOctets) (a : Answer) (h : List Moment) : Type 0 where
   pub t3396 : Iff (a ≡ Stopped question.T3396) (barred T3396 parts h ≡ true)
   pub t3584 : Iff (a ≡ Stopped question.T3584) ((barred T3396 parts h ≡ false) × (barred T3584 parts h ≡ true))
   pub t3585 : Iff (a ≡ Stopped question.T3585) ((barred T3396 parts h ≡ false) × (barred T3584 parts h ≡ false) × (barred T3585 parts h ≡ true))
@@ -39,9 +39,9 @@ pub record Stopped-by-timers (parts : KeyOctets) (a : Answer) (h : List Moment) 
 -- moment, and every modification of a session that is no emergency one, on the keys of its establishment
 pub record Barring (c : Said) (a : Answer) (h : List Moment) : Type 0 where
   pub establishments : (identity type : ℕ) (slice name : Option (List ℕ)) → c ≡ establish identity type slice name → (type == 1 || type == 2) ≡ true → ReachesTimers a
-      → Stopped-by-timers (record { network = (now h).network; slice = octets_in slice; name = octets_in name }) a h
+      → StoppedByTimers (record { network = (now h).network; slice = octets_in slice; name = octets_in name }) a h
   pub modifications : (identity : ℕ) (e : Asked) → c ≡ modify identity → asked identity h ≡ Some e → emergency e.request_type ≡ false → ReachesTimers a
-      → Stopped-by-timers e.parts a h
+      → StoppedByTimers e.parts a h
 
 -- a request is let out with a PTI, and its message is the newest waiting one, all others unmoved
 pub record Left (asks : ℕ → Option Message) (a : Answer) (before after : List (List ℕ)) : Type 0 where

@@ -22,14 +22,14 @@ holds (Some l) s m = applies l s m
 holds None s m = none_of lines s m
 
 -- one case holds, and no other
-pub record One-case (s : State) (m : Received) : Type 0 where
+pub record OneCase (s : State) (m : Received) : Type 0 where
   pub case : Option Line
   pub holding : holds case s m ≡ true
   pub only : (other : Option Line) → holds other s m ≡ true → other ≡ case
 
 -- exactly one case holds of every state and message
 abbrev pub ExactlyOne : Type 0
-ExactlyOne = (s : State) (m : Received) → One-case s m
+ExactlyOne = (s : State) (m : Received) → OneCase s m
 
 -- no message leaves INACTIVE
 abbrev pub InactiveStays : Type 0
@@ -66,9 +66,9 @@ waited_on (n ∷ ns) None = None
 waited_on (n ∷ ns) (Some w) = waited_on ns (waited n w)
 
 -- five readings of at least 16 seconds: after four of them the request still waits, after the fifth it is given up
-pub record Five-readings (p a b c d e : ℕ) : Type 0 where
+pub record FiveReadings (p a b c d e : ℕ) : Type 0 where
   pub four : waited_on (a ∷ b ∷ c ∷ d ∷ []) (Some (new_request p)) ≡ Some (record { pti = p; left = 16; expiries = 4 })
   pub five : waited_on (a ∷ b ∷ c ∷ d ∷ e ∷ []) (Some (new_request p)) ≡ None
 
 abbrev pub FiveExpiries : Type 0
-FiveExpiries = (p a b c d e : ℕ) → 16 ≤ a → 16 ≤ b → 16 ≤ c → 16 ≤ d → 16 ≤ e → Five-readings p a b c d e
+FiveExpiries = (p a b c d e : ℕ) → 16 ≤ a → 16 ≤ b → 16 ≤ c → 16 ≤ d → 16 ≤ e → FiveReadings p a b c d e
