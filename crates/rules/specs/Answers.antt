@@ -1,8 +1,6 @@
 -- The numbers of the answers.
-use Rattle.std.specs.Prelude.{ℕ, Some, None, Option}
+use Rattle.std.specs.Prelude.{ℕ}
 use Rattle.dl_nas.specs.Message.{number_of}
-use Rattle.session.specs.declared.outcome.Ended.{Ended}
-use Rattle.session.specs.declared.outcome.Ended.TheVariants.{Accepted, Rejected, Returned, Overtaken, Nothing}
 use Rattle.session.specs.declared.outcome.Reply.{Reply}
 use Rattle.session.specs.declared.outcome.Reply.TheVariants.{ModificationComplete, ReleaseComplete, Status}
 use Rattle.rules.specs.declared.answer.TakeInRefusal.{TakeInRefusal}

@@ -1,14 +1,13 @@
 -- The calls of a life, told by plain values, and what each answers and does. A life begins with a commissioned handset.
-use Rattle.std.specs.Prelude.{ℕ, ◌-◌, min, Bool, true, false, cond, ◌&&◌, List, [], ◌∷◌, ◌++◌, length, replicate, Some, None, Ok, Err, Option, Result, ◌==◌}
+use Rattle.std.specs.Prelude.{ℕ, ◌-◌, min, Bool, true, cond, ◌&&◌, List, ◌++◌, length, replicate, Some, None, Ok, Err, Option, Result, ◌==◌}
 use Rattle.requests.specs.declared.question.Question.{Question}
 use Rattle.keys.specs.Lengths.{name_length, slice_length}
 use Rattle.requests.specs.State.{StateView}
 use Rattle.requests.specs.Wanted.{lawful_part, octets_in}
 use Rattle.uplink.specs.Sizes.{longest_message}
-use Rattle.uplink.specs.Waiting.{oldest, takeable, after_take, place_after}
+use Rattle.uplink.specs.Waiting.{after_take, place_after}
 use Rattle.rules.specs.declared.answer.Answer.{Answer}
 use Rattle.rules.specs.declared.answer.Answer.TheVariants.{SwitchedOn, SwitchedOff, LetOut, Stopped, TakenIn, NotTakenIn, Read, NetworkChanged, Taken, Looked, NotAvailable}
-use Rattle.rules.specs.declared.answer.Expired.{Expired}
 use Rattle.rules.specs.declared.answer.TakenIn.{TakenIn as Taking}
 use Rattle.rules.specs.declared.answer.TakeInRefusal.{TakeInRefusal}
 use Rattle.rules.specs.declared.answer.TakenMessage.{TakenMessage}

@@ -1,5 +1,5 @@
 -- The three requests: the questions in their order, then letting out.
-use Rattle.std.specs.Prelude.{ℕ, Bool, true, false, cond, ◌&&◌, List, [], ◌∷◌, ◌++◌, length, Some, None, Ok, Err, Option, Result}
+use Rattle.std.specs.Prelude.{ℕ, List, [], ◌∷◌, ◌++◌, length, Ok, Err, Option, Result}
 use Rattle.ul_nas.specs.Message.{Message, message, establishment_request, modification_request, release_request}
 use Rattle.ul_nas.specs.Format.{encoding}
 use Rattle.session.specs.Messages.{present}

@@ -1,5 +1,5 @@
 -- Take in: the message is read, the session's state and the message decide together, then a due reply needs room.
-use Rattle.std.specs.Prelude.{ℕ, ◌+◌, Bool, true, false, cond, not, ◌&&◌, List, [], ◌∷◌, ◌++◌, length, is_some, Some, None, Ok, Err, Option, Result}
+use Rattle.std.specs.Prelude.{ℕ, ◌+◌, cond, not, ◌&&◌, List, [], ◌∷◌, ◌++◌, length, is_some, Some, None, Ok, Err, Option, Result}
 use Rattle.dl_nas.specs.declared.message.MessageFault.{MessageFault}
 use Rattle.dl_nas.specs.declared.message.Received.{Received}
 use Rattle.dl_nas.specs.Message.{received}

@@ -7,7 +7,7 @@ use Rattle.sessions.proofs.Free.{seek_start, seek_more, seek_found, seek_end}
 use Rattle.sessions.proofs.table.Sessions.next_pti.Goals as goal
 
 pub loop-init : goal.loop-init
-loop-init c = seek_start (waiting_ptis (sessions_view c.args.self.now)) c.args.last c.after_pti.result c.after_pti.ensures
+loop-init c = seek_start (waiting_ptis (sessions_view c.args.self.now)) c.args.last c.after-pti.result c.after-pti.ensures
 
 pub returns-then-not-is_waiting : goal.returns-then-not-is_waiting
 returns-then-not-is_waiting c =
