@@ -1,5 +1,5 @@
 -- The three requests lead on and keep the law.
-use Rattle.std.proofs.Common.{◌≡◌, ℕ, ◌+◌, ◌-◌, ◌<◌, ◌≤◌, true, false, List, [], ◌∷◌, ◌++◌, length, get_or, set, Some, None, Ok, Err, Option, Result, sym, refl, ap, ◌∙◌, subst, inl, inr, arith}
+use Rattle.std.proofs.Common.{◌≡◌, ℕ, ◌<◌, ◌≤◌, true, false, List, [], ◌∷◌, ◌++◌, length, get_or, set, Some, None, Ok, Err, Option, Result, sym, refl, ap, ◌∙◌, subst, inl, inr, arith}
 use Rattle.std.specs.Option.{option_map}
 use Rattle.std.proofs.lemmas.List.{length-append, length-set}
 use Rattle.requests.specs.declared.question.Question.{Question}
@@ -21,8 +21,6 @@ use Rattle.rules.specs.Calls.{establish, modify, release, Step, on_step, request
 use Rattle.rules.specs.Requests as rules
 use Rattle.rules.specs.Requests.{next_pti, unless_stopped, establish_asked, establish_leaves, establish_sends, asked_message}
 use Rattle.law.specs.Moments.{Moment}
-use Rattle.law.specs.Requests.{sent}
-use Rattle.law.specs.Timers as law
 use Rattle.law.specs.Law.{early}
 use Rattle.law.proofs.Sessions.{waits, Found, found}
 use Rattle.law.proofs.Books.{Booked, booked_out, tallied_out}

@@ -1,10 +1,10 @@
 -- The timers of a handset go with the moments of its life.
-use Rattle.std.proofs.Common.{◌≡◌, ℕ, ◌+◌, ◌-◌, ◌<◌, ◌≤◌, Bool, true, false, cond, not, ◌&&◌, ◌||◌, eqb, leb, ◌≢◌, ◌⊎◌, List, [], ◌∷◌, ◌++◌, map, length, get_or, set, Some, Option, sym, refl, ap, ◌∙◌, subst, ⊎_elim, arith}
+use Rattle.std.proofs.Common.{◌≡◌, ℕ, ◌+◌, ◌-◌, ◌<◌, ◌≤◌, Bool, true, false, cond, not, ◌&&◌, ◌||◌, eqb, leb, ◌≢◌, List, [], ◌∷◌, ◌++◌, map, length, get_or, set, Some, Option, sym, refl, ap, ◌∙◌, subst, ⊎_elim, arith}
 use Rattle.std.specs.Option.{option_map}
 use Rattle.std.proofs.lemmas.List.{length-map, get_or-set_same, get_or-set_other, get_or-map}
 use Rattle.std.proofs.lemmas.Bool.{cond_both, cases_eq, cases_Bool, eq-eqb, ne_eqb, and_parts, and_from, or_left, or_right, le-leb}
 use Rattle.backoff.specs.declared.octet.TimerValue.{TimerValue}
-use Rattle.backoff.specs.declared.octet.TimerValue.TheVariants.{Zero, Deactivated}
+use Rattle.backoff.specs.declared.octet.TimerValue.TheVariants.{Zero}
 use Rattle.backoff.specs.declared.timer.BackOffTimer.{BackOffTimer}
 use Rattle.backoff.specs.declared.timer.BackOffTimer.TheVariants.{Stopped, Running}
 use Rattle.backoff.specs.declared.timer.BackOffTimer.TheVariants as timer

@@ -1,5 +1,5 @@
 -- The pending requests and the tally of a handset go with the moments of its life.
-use Rattle.std.proofs.Common.{◌≡◌, ℕ, zero, ◌+◌, ◌-◌, ◌<◌, Bool, true, false, cond, eqb, ◌≢◌, ◌⊎◌, List, [], ◌∷◌, ◌++◌, map, length, get_or, set, replicate, is_some, Some, None, count_by, Option, sym, refl, ap, ◌∙◌, subst, ⊎_elim, arith}
+use Rattle.std.proofs.Common.{◌≡◌, ℕ, ◌+◌, ◌-◌, ◌<◌, Bool, true, false, cond, eqb, ◌≢◌, List, [], ◌∷◌, ◌++◌, map, length, get_or, set, replicate, is_some, Some, None, count_by, Option, sym, refl, ap, ◌∙◌, subst, ⊎_elim, arith}
 use Rattle.std.proofs.lemmas.List.{length-set, length-map, get_or-set_same, get_or-set_other, get_or-map, get_or-replicate}
 use Rattle.std.proofs.lemmas.List.Sums.{sum_by-set}
 use Rattle.std.proofs.lemmas.Bool.{cases_eq, eq-eqb, ne_eqb}
@@ -8,7 +8,7 @@ use Rattle.session.specs.declared.outcome.Ended.{Ended}
 use Rattle.session.specs.declared.outcome.Ended.TheVariants.{Accepted, Rejected, Returned, Overtaken, Nothing}
 use Rattle.session.specs.Laws.{ends}
 use Rattle.session.specs.Session.{SessionView, unused}
-use Rattle.session.specs.Time.{counted, counted_session}
+use Rattle.session.specs.Time.{counted_session}
 use Rattle.session.specs.Transitions.{outcome_of, taken_in}
 use Rattle.sessions.specs.Ptis.{is_pending}
 use Rattle.requests.specs.declared.state.Tally.{Tally}
@@ -22,7 +22,7 @@ use Rattle.rules.specs.Power.{no_tally}
 use Rattle.rules.specs.Reading as reading
 use Rattle.rules.specs.TakingIn.{tally_with}
 use Rattle.law.specs.Moments.{Moment}
-use Rattle.law.specs.Requests.{told_by, now, Event, sent, ended, event, of, later, pending, waiting}
+use Rattle.law.specs.Requests.{told_by, now, Event, sent, ended, of, later, pending, waiting}
 use Rattle.law.specs.Tallies.{more, by_end, by_message, let_out_of, accepted, rejected, returned, overtaken, given_up_of}
 use Rattle.law.specs.Law.{Balanced}
 use Rattle.law.proofs.Sessions.{waits, pending_waits, Found, counted_up, waits_later, given_all, message_waits, message_pended}

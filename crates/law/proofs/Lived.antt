@@ -1,5 +1,5 @@
 -- How a handset goes with the moments of its life, and that every call while it is switched on leads on and keeps the law.
-use Rattle.std.proofs.Common.{◌≡◌, ℕ, ◌+◌, ◌-◌, ◌≤◌, Bool, true, false, cond, ◌||◌, eqb, ◌⊎◌, List, [], ◌∷◌, ◌++◌, length, get_or, Some, None, Option, sym, refl, ap, ◌∙◌, subst, arith}
+use Rattle.std.proofs.Common.{◌≡◌, ℕ, ◌+◌, ◌≤◌, Bool, true, false, cond, ◌||◌, eqb, ◌⊎◌, List, [], ◌∷◌, ◌++◌, length, get_or, Some, None, Option, sym, refl, ap, ◌∙◌, subst, arith}
 use Rattle.std.specs.Option.{option_map}
 use Rattle.std.specs.Str.{bytes_eq}
 use Rattle.backoff.specs.declared.timer.BackOffTimer.TheVariants as timer
@@ -14,24 +14,20 @@ use Rattle.session.specs.declared.timers.TimerKind.{TimerKind}
 use Rattle.session.specs.Session.{unused}
 use Rattle.ul_nas.specs.Message.{message, establishment_request, modification_request, release_request, request_type_of, emergency}
 use Rattle.uplink.specs.Sizes.{capacity}
-use Rattle.uplink.specs.Waiting.{room}
 use Rattle.rules.specs.declared.answer.Answer.{Answer}
 use Rattle.rules.specs.declared.answer.Answer.TheVariants.{SwitchedOn, SwitchedOff, LetOut, Stopped, TakenIn, NotTakenIn, Read, NetworkChanged, Taken, Looked, NotAvailable}
 use Rattle.rules.specs.declared.answer.ClosedTally.{ClosedTally}
-use Rattle.rules.specs.Calls.{Said, switch_on, switch_off, establish, modify, release, take_in, time_reading, change_network, network_take, look, Handset, Step, step}
+use Rattle.rules.specs.Calls.{Said, switch_on, switch_off, establish, modify, release, take_in, time_reading, change_network, network_take, look, Handset, Step}
 use Rattle.law.specs.Moments.{Moment, available, waiting_after, moment_of}
 use Rattle.law.specs.Requests.{told_by, Now, then, now, Asked, asks, asked, event, of}
 use Rattle.law.specs.Tallies.{more, by_message}
 use Rattle.law.specs.Timers.{stroke, strokes}
-use Rattle.law.specs.Timers as law
 use Rattle.law.specs.Law.{ReachesTimers, StoppedByTimers, Barring, Left, Held, Sending, Kept}
-use Rattle.law.proofs.Sessions.{waits}
 use Rattle.law.proofs.Ends.{ends_in_time}
 use Rattle.law.proofs.Books.{Booked, balanced, no_event, tallied_none}
 use Rattle.law.proofs.Strokes.{left_of}
 use Rattle.law.proofs.Tables.{table, Sound}
 use Rattle.law.proofs.Bars.{Timed, shrinks_self, timed_still}
-use Rattle.law.proofs.Barring.{told}
 
 -- switched on: what the handset remembers goes with the moments
 pub record Alive (h : List Moment) (s : StateView) : Type 0 where

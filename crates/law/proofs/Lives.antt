@@ -11,7 +11,7 @@ use Rattle.kept_set.specs.Trailer.{trailer_number, trailer_card, trailer_count, 
 use Rattle.requests.specs.State.{StateView}
 use Rattle.timers.specs.Timers.{no_timers}
 use Rattle.uplink.specs.Sizes.{capacity}
-use Rattle.rules.specs.Calls.{Said, switch_on, switch_off, establish, modify, release, take_in, time_reading, change_network, network_take, look, Handset, Step, step, not_available, lawful_call, performed}
+use Rattle.rules.specs.Calls.{Said, switch_on, switch_off, establish, modify, release, take_in, time_reading, change_network, network_take, look, Handset, Step, step, not_available, lawful_call}
 use Rattle.rules.specs.Power.{commissioned}
 use Rattle.law.specs.Moments.{Moment, available, Life, moment_of, lived_on, called, begun, life}
 use Rattle.law.specs.Law.{Law, EveryLife}

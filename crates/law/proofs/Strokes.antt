@@ -19,7 +19,7 @@ use Rattle.session.specs.declared.timers.TimerKind.{TimerKind}
 use Rattle.session.specs.declared.timers.TimerRule.{TimerRule}
 use Rattle.session.specs.declared.timers.TimerRule.TheVariants.{NoMark, Mark, LiftAll}
 use Rattle.session.specs.Timers.{kind_of, mark, returned_mark, message_rule}
-use Rattle.law.specs.Timers.{Stroke, reactivated, lifted_if_deactivated, imposed, counted, stands}
+use Rattle.law.specs.Timers.{Stroke, lifted_if_deactivated, imposed, counted, stands}
 
 -- the timer of what was imposed, after the seconds counted
 abbrev pub left_by : TimerValue → ℕ → BackOffTimer

@@ -1,5 +1,5 @@
 -- Time, another network, the network's take, and switching off and on lead on and keep the law.
-use Rattle.std.proofs.Common.{◌≡◌, ℕ, ◌+◌, ◌-◌, ◌≤◌, true, false, cond, ◌⊎◌, List, [], ◌∷◌, ◌++◌, length, take, drop, set, replicate, Some, None, Option, sym, refl, ap, ◌∙◌, subst, ⊎_elim, arith}
+use Rattle.std.proofs.Common.{◌≡◌, ℕ, ◌-◌, ◌≤◌, true, false, cond, List, [], ◌∷◌, ◌++◌, length, take, drop, replicate, Some, None, Option, sym, refl, ap, ◌∙◌, subst, ⊎_elim, arith}
 use Rattle.std.specs.Str.{bytes_eq}
 use Rattle.std.proofs.lemmas.List.{length-append, length-take, length-drop, get_or-replicate}
 use Rattle.std.proofs.lemmas.Bool.{cond_both, cases_Bool}
@@ -8,15 +8,14 @@ use Rattle.bars.specs.Bars.{timer_on, deactivated_lifted}
 use Rattle.kept_set.specs.Loading.{kept_timers, or_none, known_seconds, restored}
 use Rattle.keys.specs.Octets.{KeyOctets}
 use Rattle.requests.specs.State.{StateView}
-use Rattle.session.specs.declared.state.State.{State}
 use Rattle.session.specs.declared.timers.TimerKind.{TimerKind}
 use Rattle.session.specs.Session.{unused}
 use Rattle.session.specs.State.{inactive}
 use Rattle.timers.specs.Parts.{session_parts}
 use Rattle.timers.specs.Timers.{TimersView}
 use Rattle.uplink.specs.Sizes.{capacity}
-use Rattle.uplink.specs.Waiting.{room, takeable, after_take}
-use Rattle.rules.specs.declared.answer.Answer.TheVariants.{SwitchedOn, SwitchedOff, Stopped, Read, NetworkChanged, Taken}
+use Rattle.uplink.specs.Waiting.{takeable, after_take}
+use Rattle.rules.specs.declared.answer.Answer.TheVariants.{SwitchedOn, SwitchedOff, Read, NetworkChanged, Taken}
 use Rattle.rules.specs.Calls.{switch_on, switch_off, time_reading, change_network, network_take, on_step, off_step, place_of as room_of, taken_message}
 use Rattle.rules.specs.Reading as reading
 use Rattle.law.specs.Moments.{Moment, waiting_after}
@@ -31,7 +30,6 @@ use Rattle.law.proofs.Strokes.{left_of, left_later, left_reactivated}
 use Rattle.law.proofs.Tables.{table, Sound, sound_counted, timer_counted, counted_table, timer_reactivated, free_sound, free_timer}
 use Rattle.law.proofs.Claims.{claimed_none}
 use Rattle.law.proofs.Bars.{timed_read, timed_network}
-use Rattle.law.proofs.Barring.{told}
 use Rattle.law.proofs.Restoring.{same_card, other_card, same_size}
 use Rattle.law.proofs.Lived.{barring_from, sending_from, Lived, Leads, leads, full, nothing_done, not_off}
 use Rattle.std.proofs.lemmas.Slice.Eq.{bytes_eq-Decides}

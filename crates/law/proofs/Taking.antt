@@ -1,5 +1,5 @@
 -- Taking in a message leads on and keeps the law.
-use Rattle.std.proofs.Common.{◌≡◌, ℕ, ◌+◌, ◌-◌, ◌<◌, ◌≤◌, Bool, true, false, cond, not, ◌&&◌, List, [], ◌∷◌, ◌++◌, length, get_or, set, is_some, Some, None, Ok, Err, Option, Result, sym, refl, ap, ◌∙◌, subst, arith}
+use Rattle.std.proofs.Common.{◌≡◌, ℕ, ◌<◌, ◌≤◌, Bool, true, false, cond, not, ◌&&◌, List, [], ◌∷◌, ◌++◌, length, get_or, set, is_some, Some, None, Ok, Err, Option, Result, sym, refl, ap, ◌∙◌, subst, arith}
 use Rattle.std.specs.Option.{option_map}
 use Rattle.std.proofs.lemmas.List.{length-append, length-set}
 use Rattle.std.proofs.lemmas.Bool.{cond_both}
@@ -21,7 +21,7 @@ use Rattle.sessions.specs.Live.{live, live_keys}
 use Rattle.sessions.specs.Table.{session_of, place_of, put, changed}
 use Rattle.timers.specs.Parts.{session_parts}
 use Rattle.timers.specs.Timers as tables
-use Rattle.ul_nas.specs.Message.{Message, message, emergency}
+use Rattle.ul_nas.specs.Message.{emergency}
 use Rattle.uplink.specs.Sizes.{capacity}
 use Rattle.uplink.specs.Waiting.{room}
 use Rattle.rules.specs.declared.answer.Answer.TheVariants.{TakenIn, NotTakenIn}
@@ -31,7 +31,7 @@ use Rattle.rules.specs.declared.answer.TakeInRefusal.TheVariants as refusal
 use Rattle.rules.specs.Calls.{take_in, Step, on_step, taking_told}
 use Rattle.rules.specs.TakingIn as taking
 use Rattle.law.specs.Moments.{Moment}
-use Rattle.law.specs.Requests.{asked, of}
+use Rattle.law.specs.Requests.{asked}
 use Rattle.law.specs.Timers.{strokes}
 use Rattle.law.specs.Timers as law
 use Rattle.law.proofs.Sessions.{Found, found, message_lives, effect_lives, effect_told}

@@ -2,7 +2,7 @@
 use Rattle.std.specs.Prelude.{ℕ, Bool, true, false, cond, List, [], ◌∷◌, ◌++◌, None, fold}
 use Rattle.rules.specs.declared.answer.Answer.{Answer}
 use Rattle.rules.specs.declared.answer.Answer.TheVariants.{SwitchedOn, SwitchedOff, LetOut, Stopped, TakenIn, NotTakenIn, Read, NetworkChanged, Taken, Looked, NotAvailable}
-use Rattle.rules.specs.Calls.{Said, switch_on, switch_off, establish, modify, release, take_in, time_reading, change_network, network_take, look, Handset, Step, performed}
+use Rattle.rules.specs.Calls.{Said, Handset, Step, performed}
 use Rattle.rules.specs.Power.{commissioned}
 
 -- a call, its answer, and what waits on the uplink after it

@@ -1,5 +1,5 @@
 -- Eight worked cases: what the rules give for each.
-use Rattle.std.specs.Prelude.{◌≡◌, ℕ, false, List, [], ◌∷◌, ◌++◌, length, replicate, Some, None, Ok, Option}
+use Rattle.std.specs.Prelude.{◌≡◌, ℕ, List, [], ◌∷◌, ◌++◌, replicate, Some, None, Ok, Option}
 use Rattle.backoff.specs.declared.octet.TimerValue.TheVariants as value
 use Rattle.backoff.specs.declared.timer.BackOffTimer.{BackOffTimer}
 use Rattle.backoff.specs.declared.timer.BackOffTimer.TheVariants.{Stopped, Running}
@@ -8,11 +8,8 @@ use Rattle.keeper.specs.Records.{blank_records}
 use Rattle.law.specs.Moments.{life}
 use Rattle.requests.specs.declared.question.Question.TheVariants as question
 use Rattle.rules.specs.declared.answer.Answer.{Answer}
-use Rattle.rules.specs.declared.answer.Answer.TheVariants.{SwitchedOn, SwitchedOff, LetOut, Stopped, TakenIn, Read, Taken, Looked}
-use Rattle.rules.specs.declared.answer.ClosedTally.{ClosedTally}
-use Rattle.rules.specs.declared.answer.Expired.{Expired}
-use Rattle.rules.specs.declared.answer.TakenIn.{TakenIn as Taking}
-use Rattle.rules.specs.Calls.{Said, switch_on, switch_off, establish, modify, release, take_in, time_reading, change_network, network_take, look}
+use Rattle.rules.specs.declared.answer.Answer.TheVariants.{SwitchedOn, SwitchedOff, LetOut, Stopped, TakenIn, Read, Looked}
+use Rattle.rules.specs.Calls.{Said, switch_on, switch_off, establish, take_in, time_reading, look}
 use Rattle.session.specs.declared.outcome.Ended.{Ended}
 use Rattle.session.specs.declared.outcome.Ended.TheVariants.{Accepted, Nothing}
 use Rattle.session.specs.declared.outcome.Reply.{Reply}
@@ -20,7 +17,6 @@ use Rattle.session.specs.declared.outcome.Reply.TheVariants.{ReleaseComplete}
 use Rattle.session.specs.declared.timers.TimerKind.TheVariants.{T3396}
 use Rattle.session.specs.declared.timers.TimerRule.{TimerRule}
 use Rattle.session.specs.declared.timers.TimerRule.TheVariants.{NoMark, Mark}
-use Rattle.timers.specs.declared.timers.methods.TimersOn.{TimersOn}
 
 -- a card, a network, a slice and a name
 abbrev pub card : List ℕ
