@@ -27,9 +27,9 @@ def caught_by(output):
     """What the check said first of the function that is no longer proved."""
     for line in output.splitlines():
         if re.match(r"fn .*: (no proof|not proved)", line):
-            name = line.split(":", 1)[0] if "::" not in line else re.match(r"fn (\S+?):(?!:)", line).group(1)
-            need = re.search(r"`search` does not close (.*?)(;|$)", line)
-            return f"{name}: {need.group(1) if need else line.split(': ', 1)[1]}"
+            name = re.match(r"fn (\S+?):(?!:)", line).group(1)
+            goal = re.search(r"`search` did not prove `(.*?)`", line)
+            return f"{name}: {goal.group(1) if goal else line.split(': ', 1)[1]}"
     for line in output.splitlines():
         if "error" in line:
             return re.sub(r"^\S*?(crates/)", r"\1", line)[:160]
@@ -43,11 +43,11 @@ def plant(copy, crate, file, old, new):
         return None, f"its text stands {text.count(old)} times"
     path.write_text(text.replace(old, new))
     try:
-        run = subprocess.run(["rt", "dev", crate], cwd=copy, capture_output=True, text=True)
+        run = subprocess.run(["rt", "check"], cwd=copy / "crates" / crate, capture_output=True, text=True)
     finally:
         path.write_text(text)
     output = run.stdout + run.stderr
-    if "logic=proved" in output.splitlines()[-1] or re.search(r"^logic=proved", output.split("crate " + crate)[-1], re.M):
+    if run.returncode == 0 and re.search(r"^logic=proved", output.split("\ncrate " + crate)[-1], re.M):
         return False, ""
     return True, caught_by(output)
 
@@ -57,7 +57,7 @@ def main(names):
     missed = 0
     with tempfile.TemporaryDirectory() as place:
         copy = pathlib.Path(place) / "copy"
-        shutil.copytree(ROOT, copy, symlinks=True, ignore=shutil.ignore_patterns(".git", "bin"))
+        shutil.copytree(ROOT, copy, symlinks=True, ignore=shutil.ignore_patterns(".git", "out", "target"))
         for path in lists:
             crate = path.stem
             if names and crate not in names:
