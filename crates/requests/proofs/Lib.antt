@@ -3,3 +3,4 @@ pub mod Rows
 pub mod Thinning
 pub mod Leaving
 pub mod Messages
+pub mod Holding

@@ -5,3 +5,4 @@ pub mod Wanted
 pub mod Decisions
 pub mod LettingOut
 pub mod Sending
+pub mod SoundViews

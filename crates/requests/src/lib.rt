@@ -2,7 +2,9 @@
 #![tactic(auto)]
 
 pub mod decide;
+pub mod lawful;
 pub mod let_out;
 pub mod question;
+pub mod sound;
 pub mod state;
 pub mod wanted;

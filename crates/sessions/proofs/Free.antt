@@ -122,3 +122,16 @@ pub seek_end : (vs : List SessionView) (last i p : ℕ) → length vs ≡ 15 →
 seek_end vs last i p h m s =
     let n : 15 - i ≡ 0 = omega arith in
     one_left (among p (waiting_ptis vs)) p (ap (λ k. some_pti (first_free (waiting_ptis vs) (p ∷ candidates k p))) (sym n) ∙ ap some_pti s.1 ∙ soon_some vs last h)
+
+free_among : (ws ps : List ℕ) (p : ℕ) → first_free ws ps ≡ Some p → among p ps ≡ true
+free_among ws [] p e = absurd (let z : ◌≡◌ {A = ℕ} 0 1 = cc in omega arith)
+free_among ws (q ∷ ps) p e = by_first (among q ws) (free_among ws ps p) e
+  where
+    by_first : (b : Bool) → (first_free ws ps ≡ Some p → among p ps ≡ true) → cond b (first_free ws ps) (Some q) ≡ Some p → among p (q ∷ ps) ≡ true
+    by_first true ih h = let a = ih h in grind (arith, nat_tests)
+    by_first false ih h = let s : q ≡ p = cc in grind (arith, nat_tests)
+
+-- the next PTI is 1 to 254
+pub next_is_pti : (vs : List SessionView) (last p : ℕ) → Some p ≡ next_free vs last → is_pti p ≡ true
+unfolding next_free
+next_is_pti vs last p e = candidate_pti 254 last p (free_among (waiting_ptis vs) (candidates 254 last) p (sym e))
