@@ -2,13 +2,14 @@
 #![tactic(auto)]
 
 ghost use Rattle.std.specs.Prelude.{◌≡◌, ◌+◌, ◌≤◌, Ok};
-ghost use Rattle.requests.specs.State.{state_view};
+ghost use Rattle.requests.specs.SoundViews.{sound_view};
 ghost use Rattle.rules.specs.TakingIn.{passed_over, did, taken, after_taken, tally_with};
 ghost use Rattle.session.specs.Session.{session_view};
 ghost use Rattle.session.specs.Transitions.{outcome_of};
 
 use dl_nas::message::Received;
-use requests::state::{State, Tally};
+use requests::sound::SoundState;
+use requests::state::Tally;
 use rules::answer::{TakeInRefusal, TakenIn};
 use session::outcome::{Ended, Outcome};
 use session::session::Session;
@@ -68,24 +69,25 @@ fn tally_with(ended: Ended, tally: Tally) -> Tally
 // Takes in a message that was read, while some messages wait: its session's state and the message decide together; then a
 // reply that is due needs room (12). A refusal changes nothing.
 pub fn take_in(
-    state: &mut State,
+    state: &mut SoundState,
     message: &Received,
     waiting: usize,
 ) -> Result<TakenIn, TakeInRefusal>
-    ensures answer { result ≡ taken (Ok message.now) (state_view state.old) waiting }
-    ensures state { state_view state.new ≡ after_taken result (Ok message.now) (state_view state.old) }
+    ensures answer { result ≡ taken (Ok message.now) (sound_view state.old) waiting }
+    ensures state { sound_view state.new ≡ after_taken result (Ok message.now) (sound_view state.old) }
 {
-    let Some(session) = state.sessions.session(message.identity) else {
+    let Some(session) = state.plain.sessions.session(message.identity) else {
         return Ok(passed_over(message.identity));
     };
     let answer = answer_on(&session, message);
     if answer.reply.is_some() && waiting >= CAPACITY {
         return Err(TakeInRefusal::Waiting);
     }
-    state.sessions.take_in(message.identity, message);
+    state.plain.sessions.take_in(message.identity, message);
     state
+        .plain
         .timers
         .apply(answer.rule, &KeyParts::of_session(&session));
-    state.tally = tally_with(answer.ended, state.tally);
+    state.plain.tally = tally_with(answer.ended, state.plain.tally);
     Ok(answer)
 }

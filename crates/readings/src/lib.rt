@@ -3,7 +3,7 @@
 
 ghost use Rattle.std.specs.Prelude.{◌≡◌, ◌+◌, ◌-◌, ◌<◌, ◌≤◌, ◌++◌, length, take, if◌then◌else◌};
 ghost use Rattle.readings.specs.Turns.{expired_so, tally_by, expired_on, turn_answer, turn_waiting, sum_of, all_expired, timers_counted};
-ghost use Rattle.requests.specs.State.{state_view};
+ghost use Rattle.requests.specs.SoundViews.{sound_view};
 ghost use Rattle.rules.specs.Reading.{expired, repeated_messages, reading_answer, after_reading, waiting_after_reading};
 ghost use Rattle.sessions.specs.Acts.{expiry_of};
 ghost use Rattle.sessions.specs.Table.{session_of};
@@ -11,7 +11,8 @@ ghost use Rattle.uplink.specs.Sizes.{capacity};
 
 pub mod laws;
 
-use requests::state::{State, Tally};
+use requests::sound::SoundState;
+use requests::state::Tally;
 use rules::answer::Expired;
 use session::outcome::Expiry;
 use uplink::queue::Uplink;
@@ -29,12 +30,12 @@ fn tally_by(expiry: Expiry, tally: Tally) -> Tally
 }
 
 // Takes some seconds off the waiting request of an identity; one that is given up is counted.
-fn expire(state: &mut State, identity: u8, seconds: u32) -> Expiry
-    ensures answer { result ≡ expiry_of seconds (session_of identity (state_view state.old).sessions) }
-    ensures state { state_view state.new ≡ expired_on identity seconds (state_view state.old) }
+fn expire(state: &mut SoundState, identity: u8, seconds: u32) -> Expiry
+    ensures answer { result ≡ expiry_of seconds (session_of identity (sound_view state.old).sessions) }
+    ensures state { sound_view state.new ≡ expired_on identity seconds (sound_view state.old) }
 {
-    let expiry = state.sessions.count(identity, seconds);
-    state.tally = tally_by(expiry, state.tally);
+    let expiry = state.plain.sessions.count(identity, seconds);
+    state.plain.tally = tally_by(expiry, state.plain.tally);
     expiry
 }
 
@@ -57,10 +58,10 @@ fn repeat_told(sent: bool) -> Expired
 }
 
 // The turn of one session: its request goes on, is repeated or skipped, or is given up.
-fn serve<U: Uplink>(state: &mut State, uplink: &mut U, identity: u8, seconds: u32) -> Expired
-    ensures answer { result ≡ turn_answer (expiry_of seconds (session_of identity (state_view state.old).sessions)) (length (U.Uplink.waiting uplink.old)) }
-    ensures state { state_view state.new ≡ expired_on identity seconds (state_view state.old) }
-    ensures queue { U.Uplink.waiting uplink.new ≡ turn_waiting (expiry_of seconds (session_of identity (state_view state.old).sessions)) identity (session_of identity (state_view state.old).sessions) (U.Uplink.waiting uplink.old) }
+fn serve<U: Uplink>(state: &mut SoundState, uplink: &mut U, identity: u8, seconds: u32) -> Expired
+    ensures answer { result ≡ turn_answer (expiry_of seconds (session_of identity (sound_view state.old).sessions)) (length (U.Uplink.waiting uplink.old)) }
+    ensures state { sound_view state.new ≡ expired_on identity seconds (sound_view state.old) }
+    ensures queue { U.Uplink.waiting uplink.new ≡ turn_waiting (expiry_of seconds (session_of identity (sound_view state.old).sessions)) identity (session_of identity (sound_view state.old).sessions) (U.Uplink.waiting uplink.old) }
 {
     match expire(state, identity, seconds) {
         Expiry::Nothing => told(0, 0, 0),
@@ -84,10 +85,10 @@ fn sum_of(one: Expired, other: Expired) -> Expired
 }
 
 // The turns of all sessions, identities rising.
-fn serve_all<U: Uplink>(state: &mut State, uplink: &mut U, seconds: u32) -> Expired
-    ensures answer { result ≡ expired seconds (state_view state.old).sessions (length (U.Uplink.waiting uplink.old)) }
-    ensures state { state_view state.new ≡ all_expired seconds (state_view state.old) }
-    ensures queue { U.Uplink.waiting uplink.new ≡ U.Uplink.waiting uplink.old ++ take (capacity - length (U.Uplink.waiting uplink.old)) (repeated_messages seconds 1 (state_view state.old).sessions) }
+fn serve_all<U: Uplink>(state: &mut SoundState, uplink: &mut U, seconds: u32) -> Expired
+    ensures answer { result ≡ expired seconds (sound_view state.old).sessions (length (U.Uplink.waiting uplink.old)) }
+    ensures state { sound_view state.new ≡ all_expired seconds (sound_view state.old) }
+    ensures queue { U.Uplink.waiting uplink.new ≡ U.Uplink.waiting uplink.old ++ take (capacity - length (U.Uplink.waiting uplink.old)) (repeated_messages seconds 1 (sound_view state.old).sessions) }
 {
     let mut answer = told(0, 0, 0);
     for place in 0..15u8 {
@@ -99,20 +100,20 @@ fn serve_all<U: Uplink>(state: &mut State, uplink: &mut U, seconds: u32) -> Expi
 
 // A time reading: the seconds by which it exceeds the reading before are taken off every running timer and every waiting
 // request. A request that expires is repeated, or skipped if eight messages wait; the fifth time it is given up.
-pub fn read_clock<U: Uplink>(state: &mut State, uplink: &mut U, reading: u32) -> Expired
-    ensures answer { result ≡ reading_answer reading (state_view state.old) (U.Uplink.waiting uplink.old) }
-    ensures state { state_view state.new ≡ after_reading reading (state_view state.old) }
-    ensures queue { U.Uplink.waiting uplink.new ≡ waiting_after_reading reading (state_view state.old) (U.Uplink.waiting uplink.old) }
+pub fn read_clock<U: Uplink>(state: &mut SoundState, uplink: &mut U, reading: u32) -> Expired
+    ensures answer { result ≡ reading_answer reading (sound_view state.old) (U.Uplink.waiting uplink.old) }
+    ensures state { sound_view state.new ≡ after_reading reading (sound_view state.old) }
+    ensures queue { U.Uplink.waiting uplink.new ≡ waiting_after_reading reading (sound_view state.old) (U.Uplink.waiting uplink.old) }
 {
-    let seconds = reading.saturating_sub(state.reading);
+    let seconds = reading.saturating_sub(state.plain.reading);
     count_timers(state, seconds, reading);
     serve_all(state, uplink, seconds)
 }
 
 // The seconds are taken off every timer, and the reading is kept.
-fn count_timers(state: &mut State, seconds: u32, reading: u32)
-    ensures { state_view state.new ≡ timers_counted seconds reading (state_view state.old) }
+fn count_timers(state: &mut SoundState, seconds: u32, reading: u32)
+    ensures { sound_view state.new ≡ timers_counted seconds reading (sound_view state.old) }
 {
-    state.timers.count(seconds);
-    state.reading = reading;
+    state.plain.timers.count(seconds);
+    state.plain.reading = reading;
 }

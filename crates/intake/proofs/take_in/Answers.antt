@@ -1,6 +1,6 @@
 use Rattle.std.proofs.Common.{◌≡◌, ◌+◌, Some, sym, ap, ◌∙◌, arith}
 use Rattle.requests.specs.Sound.{all_lawful, claims_fit}
-use Rattle.requests.specs.State.{state_view}
+use Rattle.requests.specs.SoundViews.{sound_view}
 use Rattle.rules.specs.TakingIn.{tally_with}
 use Rattle.session.specs.Session.{session_view}
 use Rattle.session.specs.Timers.{timer_rule}
@@ -17,7 +17,7 @@ use Rattle.intake.proofs.take_in.Goals as goal
 pub invariant_of-state : goal.invariant_of-state
 invariant_of-state c =
     let state = c.args.state.now in
-    let s = state_view state in
+    let s = sound_view state in
     let m = c.args.message.now in
     let i = m.identity in
     let v = session_view c.in-Some.session in
@@ -35,7 +35,7 @@ invariant_of-state c =
       lawful = ap all_lawful sessions ∙ lawful_thinner i s.sessions v (λ x. taken_in x m) is (thinner v m) state.lawful;
       claims =
           ap (claims_fit (timers_view c.apply.new.self)) sessions ∙ ap (λ t. claims_fit t (changed i (λ x. taken_in x m) s.sessions)) timers
-          ∙ claims_taken i s.sessions v m s.timers is (record { t3396 = state.timers.apart_t3396; t3584 = state.timers.apart_t3584; t3585 = state.timers.apart_t3585 }) state.claims;
+          ∙ claims_taken i s.sessions v m s.timers is (record { t3396 = state.plain.timers.apart_t3396; t3584 = state.plain.timers.apart_t3584; t3585 = state.plain.timers.apart_t3585 }) state.claims;
       few = omega arith;
       sums =
           ap (λ x. x.let_out) tally ∙ sums_taken i s.sessions v m s.tally is state.sums

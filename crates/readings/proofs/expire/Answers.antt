@@ -1,5 +1,5 @@
 use Rattle.std.proofs.Common.{refl, ap, ◌∙◌}
-use Rattle.requests.specs.State.{state_view}
+use Rattle.requests.specs.SoundViews.{sound_view}
 use Rattle.session.specs.Time.{counted_session}
 use Rattle.sessions.specs.Acts.{expiry_of}
 use Rattle.sessions.specs.Table.{session_of, changed, sessions_view}
@@ -10,7 +10,7 @@ use Rattle.readings.proofs.expire.Goals as goal
 pub invariant_of-state : goal.invariant_of-state
 invariant_of-state c =
     let state = c.args.state.now in
-    let s = state_view state in
+    let s = sound_view state in
     let i = c.args.identity in
     let seconds = c.args.seconds in
     let p = sound_at (changed i (counted_session seconds) s.sessions) (sessions_view c.count-expiry.new.self) s.timers s.timers

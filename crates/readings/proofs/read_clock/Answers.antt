@@ -1,5 +1,5 @@
 use Rattle.std.proofs.Common.{◌≡◌, ◌-◌, ◌++◌, length, take, ap, ◌∙◌}
-use Rattle.requests.specs.State.{state_view}
+use Rattle.requests.specs.SoundViews.{sound_view}
 use Rattle.rules.specs.Reading.{expired, repeated_messages}
 use Rattle.uplink.specs.Sizes.{capacity}
 use Rattle.readings.specs.Turns.{all_expired, timers_counted}
@@ -7,7 +7,7 @@ use Rattle.readings.proofs.read_clock.Goals as goal
 
 pub returns : goal.returns
 returns g c =
-    let s = state_view c.args.state.now in
+    let s = sound_view c.args.state.now in
     let w = g.U.Uplink.waiting c.args.uplink.now in
     let reading = c.args.reading in
     let seconds : c.saturating_sub-seconds.result ≡ reading - s.reading = c.saturating_sub-seconds.ensures in

@@ -3,14 +3,14 @@ use Rattle.session.specs.declared.outcome.Expiry.TheVariants.{Repeat}
 use Rattle.sessions.specs.Acts.{expiry_of}
 use Rattle.sessions.specs.Table.{session_of}
 use Rattle.requests.specs.Sending.{waiting_message, sends, with_message}
-use Rattle.requests.specs.State.{state_view}
+use Rattle.requests.specs.SoundViews.{sound_view}
 use Rattle.readings.specs.Turns.{expired_so, turn_answer, turn_waiting}
 use Rattle.readings.proofs.Repeating.{repeats_on}
 use Rattle.readings.proofs.serve.Goals as goal
 
 pub returns-in-Repeat : goal.returns-in-Repeat
 returns-in-Repeat g c =
-    let s = state_view c.args.state.now in
+    let s = sound_view c.args.state.now in
     let i = c.args.identity in
     let seconds = c.args.seconds in
     let waiting = g.U.Uplink.waiting c.args.uplink.now in
