@@ -1,11 +1,11 @@
 // What the network and the clock say to a switched-on handset.
 ghost use Rattle.std.specs.Prelude.{◌≡◌};
 ghost use Rattle.handset.specs.Replies.{with_reply};
-ghost use Rattle.requests.specs.State.{state_view};
+ghost use Rattle.requests.specs.SoundViews.{sound_view};
 ghost use Rattle.rules.specs.Reading.{reading_answer, after_reading, waiting_after_reading};
 ghost use Rattle.rules.specs.TakingIn.{take_in_answer, after_take_in, waiting_after_take_in};
 
-use crate::on::Handset;
+use crate::switched_on::SwitchedOn;
 use dl_nas::message::read;
 use intake::take_in;
 use keeper::Keeper;
@@ -25,11 +25,11 @@ fn send_reply<U: Uplink>(uplink: &mut U, reply: Reply, identity: u8, pti: u8)
     }
 }
 
-impl<U: Uplink, K: Keeper> Handset<U, K> {
+impl<U: Uplink, K: Keeper> SwitchedOn<U, K> {
     // Takes in a message of the network. A refusal of any kind leaves everything alone.
     pub fn take_in(&mut self, octets: &[u8]) -> Result<TakenIn, TakeInRefusal>
-        ensures answer { result ≡ take_in_answer octets.now (state_view self.old.state) (U.Uplink.waiting self.old.uplink) }
-        ensures state { state_view self.new.state ≡ after_take_in result octets.now (state_view self.old.state) }
+        ensures answer { result ≡ take_in_answer octets.now (sound_view self.old.state) (U.Uplink.waiting self.old.uplink) }
+        ensures state { sound_view self.new.state ≡ after_take_in result octets.now (sound_view self.old.state) }
         ensures queue { U.Uplink.waiting self.new.uplink ≡ waiting_after_take_in result octets.now (U.Uplink.waiting self.old.uplink) }
         ensures keeper { self.new.keeper ≡ self.old.keeper }
     {
@@ -43,9 +43,9 @@ impl<U: Uplink, K: Keeper> Handset<U, K> {
 
     // A time reading, in whole seconds.
     pub fn time_reading(&mut self, reading: u32) -> Expired
-        ensures answer { result ≡ reading_answer reading (state_view self.old.state) (U.Uplink.waiting self.old.uplink) }
-        ensures state { state_view self.new.state ≡ after_reading reading (state_view self.old.state) }
-        ensures queue { U.Uplink.waiting self.new.uplink ≡ waiting_after_reading reading (state_view self.old.state) (U.Uplink.waiting self.old.uplink) }
+        ensures answer { result ≡ reading_answer reading (sound_view self.old.state) (U.Uplink.waiting self.old.uplink) }
+        ensures state { sound_view self.new.state ≡ after_reading reading (sound_view self.old.state) }
+        ensures queue { U.Uplink.waiting self.new.uplink ≡ waiting_after_reading reading (sound_view self.old.state) (U.Uplink.waiting self.old.uplink) }
         ensures keeper { self.new.keeper ≡ self.old.keeper }
     {
         read_clock(&mut self.state, &mut self.uplink, reading)

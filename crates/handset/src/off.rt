@@ -27,7 +27,7 @@ pub fn commission<U: Uplink, K: Keeper>(uplink: U, keeper: K) -> SwitchedOff<U, 
 }
 
 // The network takes the oldest message into a place, and answers its length; refused, 0 with nothing written.
-pub(crate) fn take_oldest<U: Uplink>(uplink: &mut U, place: &mut [u8]) -> usize
+pub fn take_oldest<U: Uplink>(uplink: &mut U, place: &mut [u8]) -> usize
     ensures answer { result ≡ taken_length (U.Uplink.waiting uplink.old) (length place.old) }
     ensures queue { U.Uplink.waiting uplink.new ≡ after_take (U.Uplink.waiting uplink.old) place.old }
     ensures place { place.new ≡ place_after (U.Uplink.waiting uplink.old) place.old }

@@ -1,17 +1,18 @@
 // Switching on and switching off. Each consumes the handset that it is called on.
 ghost use Rattle.std.specs.Prelude.{◌≡◌, ◌≤◌};
 ghost use Rattle.kept_set.specs.Loading.{standing_in};
-ghost use Rattle.requests.specs.State.{state_view};
+ghost use Rattle.requests.specs.SoundViews.{sound_view};
 ghost use Rattle.rules.specs.Power.{no_tally, switched_on, restored_count, records_after_off, closed_tally};
 ghost use Rattle.timers.specs.Timers.{timers_view};
 
 use crate::off::SwitchedOff;
-use crate::on::Handset;
+use crate::switched_on::SwitchedOn;
 use keeper::Keeper;
 use kept_set::load::restore;
 use kept_set::store::store;
 use keys::card::Card;
 use keys::network::Network;
+use requests::sound::SoundState;
 use requests::state::{State, Tally};
 use rules::answer::ClosedTally;
 use sessions::table::Sessions;
@@ -40,17 +41,17 @@ fn no_tally() -> Tally
 }
 
 // The tally of a handset that is switched off: the requests still pending are cut off.
-fn closed_tally(state: &State) -> ClosedTally
-    ensures { result ≡ closed_tally (state_view state.now) }
+fn closed_tally(state: &SoundState) -> ClosedTally
+    ensures { result ≡ closed_tally (sound_view state.now) }
 {
     ClosedTally {
-        let_out: state.tally.let_out,
-        accepted: state.tally.accepted,
-        rejected: state.tally.rejected,
-        returned: state.tally.returned,
-        overtaken: state.tally.overtaken,
-        given_up: state.tally.given_up,
-        cut_off: state.sessions.pending() as u32,
+        let_out: state.plain.tally.let_out,
+        accepted: state.plain.tally.accepted,
+        rejected: state.plain.tally.rejected,
+        returned: state.plain.tally.returned,
+        overtaken: state.plain.tally.overtaken,
+        given_up: state.plain.tally.given_up,
+        cut_off: state.plain.sessions.pending() as u32,
     }
 }
 
@@ -63,8 +64,8 @@ impl<U: Uplink, K: Keeper> SwitchedOff<U, K> {
         network: Network,
         reading: u32,
         off: Option<u32>,
-    ) -> (Handset<U, K>, u8)
-        ensures state { state_view result.0.state ≡ switched_on card.octets network.octets reading off (K.Keeper.records self.keeper) }
+    ) -> (SwitchedOn<U, K>, u8)
+        ensures state { sound_view result.0.state ≡ switched_on card.octets network.octets reading off (K.Keeper.records self.keeper) }
         ensures answer { result.1 ≡ restored_count card.octets off (K.Keeper.records self.keeper) }
         ensures uplink { result.0.uplink ≡ self.uplink }
         ensures keeper { result.0.keeper ≡ self.keeper }
@@ -72,17 +73,19 @@ impl<U: Uplink, K: Keeper> SwitchedOff<U, K> {
         let SwitchedOff { uplink, keeper } = self;
         let timers = restore(&keeper, &card, off);
         let restored = standing(&timers);
-        let state = State {
-            sessions: Sessions::new(),
-            timers,
-            card,
-            network,
-            reading,
-            last_pti: 0,
-            tally: no_tally(),
+        let state = SoundState {
+            plain: State {
+                sessions: Sessions::new(),
+                timers,
+                card,
+                network,
+                reading,
+                last_pti: 0,
+                tally: no_tally(),
+            },
         };
         (
-            Handset {
+            SwitchedOn {
                 state,
                 uplink,
                 keeper,
@@ -92,21 +95,21 @@ impl<U: Uplink, K: Keeper> SwitchedOff<U, K> {
     }
 }
 
-impl<U: Uplink, K: Keeper> Handset<U, K> {
+impl<U: Uplink, K: Keeper> SwitchedOn<U, K> {
     // Switches the handset off. The running bars are kept, the deactivated ones lifted. Answers the switched-off handset and the tally since
     // switch-on.
     pub fn switch_off(self) -> (SwitchedOff<U, K>, ClosedTally)
-        ensures answer { result.1 ≡ closed_tally (state_view self.state) }
-        ensures records { K.Keeper.records result.0.keeper ≡ records_after_off (state_view self.state) (K.Keeper.records self.keeper) }
+        ensures answer { result.1 ≡ closed_tally (sound_view self.state) }
+        ensures records { K.Keeper.records result.0.keeper ≡ records_after_off (sound_view self.state) (K.Keeper.records self.keeper) }
         ensures uplink { result.0.uplink ≡ self.uplink }
     {
-        let Handset {
+        let SwitchedOn {
             state,
             uplink,
             keeper,
         } = self;
         let mut keeper = keeper;
-        store(&mut keeper, &state.card, &state.timers);
+        store(&mut keeper, &state.plain.card, &state.plain.timers);
         let tally = closed_tally(&state);
         (SwitchedOff { uplink, keeper }, tally)
     }

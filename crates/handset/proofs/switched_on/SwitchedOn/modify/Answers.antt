@@ -2,13 +2,13 @@ use Rattle.std.proofs.Common.{length, refl, ap, ◌∙◌}
 use Rattle.requests.specs.Decisions.{modify_stop}
 use Rattle.requests.specs.LettingOut.{unless_stopped}
 use Rattle.requests.specs.Sending.{waiting_message, with_message}
-use Rattle.requests.specs.State.{state_view}
+use Rattle.requests.specs.SoundViews.{sound_view}
 use Rattle.handset.proofs.Sent.{sent_modifying, not_stopped}
-use Rattle.handset.proofs.on.Handset.modify.Goals as goal
+use Rattle.handset.proofs.switched_on.SwitchedOn.modify.Goals as goal
 
 pub returns : goal.returns
 returns g c =
-    let s = state_view c.args.self.now.state in
+    let s = sound_view c.args.self.now.state in
     let i = c.args.identity in
     let pti = c.in_ok-pti.pti in
     let waiting = g.U.Uplink.waiting c.args.self.now.uplink in

@@ -1,13 +1,13 @@
 use Rattle.std.proofs.Common.{length, Ok, sym, refl, ap, ◌∙◌}
-use Rattle.requests.specs.State.{state_view}
+use Rattle.requests.specs.SoundViews.{sound_view}
 use Rattle.rules.specs.TakingIn.{taken, after_taken, replied, waiting_after_taken}
 use Rattle.handset.proofs.Replied.{reply_due, reply_queued}
-use Rattle.handset.proofs.on.Handset.take_in.Goals as goal
+use Rattle.handset.proofs.switched_on.SwitchedOn.take_in.Goals as goal
 
 pub returns-in-Some : goal.returns-in-Some
 returns-in-Some g c =
     let state = c.args.self.now.state in
-    let s = state_view state in
+    let s = sound_view state in
     let m = c.in_ok-message.message in
     let a = c.in_ok-answer.answer in
     let reply = c.in-Some.reply in

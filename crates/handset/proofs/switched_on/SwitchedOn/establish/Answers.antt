@@ -2,16 +2,15 @@ use Rattle.std.proofs.Common.{length, Ok, refl, ap, ◌∙◌}
 use Rattle.requests.specs.Decisions.{establish_stop}
 use Rattle.requests.specs.LettingOut.{unless_stopped}
 use Rattle.requests.specs.Sending.{waiting_message, with_message}
-use Rattle.requests.specs.State.{state_view}
-use Rattle.requests.specs.Wanted.{wanted_view}
+use Rattle.requests.specs.SoundViews.{sound_view, lawful_view}
 use Rattle.rules.specs.Requests.{establish_asked, establish_leaves, establish_sends}
 use Rattle.handset.proofs.Sent.{sent_establishing, not_stopped}
-use Rattle.handset.proofs.on.Handset.establish.Goals as goal
+use Rattle.handset.proofs.switched_on.SwitchedOn.establish.Goals as goal
 
 pub returns : goal.returns
 returns g c =
-    let s = state_view c.args.self.now.state in
-    let w = wanted_view c.in_ok-wanted.wanted in
+    let s = sound_view c.args.self.now.state in
+    let w = lawful_view c.in_ok-wanted.wanted in
     let i = c.args.identity in
     let pti = c.in_ok-pti.pti in
     let waiting = g.U.Uplink.waiting c.args.self.now.uplink in
