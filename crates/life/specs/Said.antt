@@ -2,8 +2,8 @@
 use Rattle.std.specs.Prelude.{ℕ, Bool, true, false, List, Some, None}
 use Rattle.std.specs.Option.{option_map}
 use Rattle.handset.specs.declared.off.SwitchedOff.{SwitchedOff}
-use Rattle.handset.specs.declared.on.Handset.{Handset as SwitchedOn}
-use Rattle.requests.specs.State.{state_view}
+use Rattle.handset.specs.declared.switched_on.SwitchedOn.{SwitchedOn}
+use Rattle.requests.specs.SoundViews.{sound_view}
 use Rattle.rules.specs.Calls.{Said, switch_on, switch_off, establish, modify, release, take_in, time_reading, change_network, network_take, look, Handset}
 use Rattle.life.specs.declared.call.Call.{Call}
 use Rattle.life.specs.declared.call.Call.TheVariants.{SwitchOn, SwitchOff, Establish, Modify, Release, TakeIn, TimeReading, ChangeNetwork, NetworkTake, Look}
@@ -24,7 +24,7 @@ said (Look slice name) = look (option_map (λ x. x.now) slice) (option_map (λ x
 
 -- a switched-on handset over an uplink and a keeper of these meanings
 abbrev pub on_view : {U K : Type 0} → (U → List (List ℕ)) → (K → List (List ℕ)) → SwitchedOn U K → Handset
-on_view waiting records h = record { state = Some (state_view h.state); waiting = waiting h.uplink; records = records h.keeper }
+on_view waiting records h = record { state = Some (sound_view h.state); waiting = waiting h.uplink; records = records h.keeper }
 
 abbrev pub off_view : {U K : Type 0} → (U → List (List ℕ)) → (K → List (List ℕ)) → SwitchedOff U K → Handset
 off_view waiting records h = record { state = None; waiting = waiting h.uplink; records = records h.keeper }

@@ -8,7 +8,7 @@ ghost use Rattle.uplink.specs.Waiting.{after_take};
 use crate::call::Call;
 use crate::power::Power;
 use handset::off::{SwitchedOff, take_oldest};
-use handset::on::Handset;
+use handset::switched_on::SwitchedOn;
 use keeper::Keeper;
 use keys::card::Card;
 use keys::name::Name;
@@ -123,7 +123,7 @@ fn perform_off<U: Uplink, K: Keeper>(
 }
 
 // Changes the network, where it has three octets.
-fn change_network<U: Uplink, K: Keeper>(handset: &mut Handset<U, K>, network: &[u8]) -> Answer
+fn change_network<U: Uplink, K: Keeper>(handset: &mut SwitchedOn<U, K>, network: &[u8]) -> Answer
     ensures answer { result ≡ (performed (change_network network.now) (on_view U.Uplink.waiting K.Keeper.records handset.old)).answer }
     ensures after { on_view U.Uplink.waiting K.Keeper.records handset.new ≡ (performed (change_network network.now) (on_view U.Uplink.waiting K.Keeper.records handset.old)).after }
 {
@@ -137,7 +137,7 @@ fn change_network<U: Uplink, K: Keeper>(handset: &mut Handset<U, K>, network: &[
 }
 
 // A time reading.
-fn read_clock<U: Uplink, K: Keeper>(handset: &mut Handset<U, K>, reading: u32) -> Answer
+fn read_clock<U: Uplink, K: Keeper>(handset: &mut SwitchedOn<U, K>, reading: u32) -> Answer
     ensures answer { result ≡ (performed (time_reading reading) (on_view U.Uplink.waiting K.Keeper.records handset.old)).answer }
     ensures after { on_view U.Uplink.waiting K.Keeper.records handset.new ≡ (performed (time_reading reading) (on_view U.Uplink.waiting K.Keeper.records handset.old)).after }
 {
@@ -146,7 +146,7 @@ fn read_clock<U: Uplink, K: Keeper>(handset: &mut Handset<U, K>, reading: u32) -
 
 // Looks at the timers on the keys of a slice and a name, where they are lawful.
 fn look<U: Uplink, K: Keeper>(
-    handset: &Handset<U, K>,
+    handset: &SwitchedOn<U, K>,
     slice: Option<&[u8]>,
     name: Option<&[u8]>,
 ) -> Answer
@@ -162,7 +162,7 @@ fn look<U: Uplink, K: Keeper>(
 }
 
 // A call that leaves a handset switched on.
-fn answer_on<U: Uplink, K: Keeper>(handset: &mut Handset<U, K>, call: Call<'_>) -> Answer
+fn answer_on<U: Uplink, K: Keeper>(handset: &mut SwitchedOn<U, K>, call: Call<'_>) -> Answer
     requires { switches_off (said call) ≡ false }
     ensures answer { result ≡ (performed (said call.entry) (on_view U.Uplink.waiting K.Keeper.records handset.old)).answer }
     ensures after { on_view U.Uplink.waiting K.Keeper.records handset.new ≡ (performed (said call.entry) (on_view U.Uplink.waiting K.Keeper.records handset.old)).after }
@@ -184,7 +184,10 @@ fn answer_on<U: Uplink, K: Keeper>(handset: &mut Handset<U, K>, call: Call<'_>) 
 }
 
 // A call of a switched-on handset.
-fn perform_on<U: Uplink, K: Keeper>(handset: Handset<U, K>, call: Call<'_>) -> (Power<U, K>, Answer)
+fn perform_on<U: Uplink, K: Keeper>(
+    handset: SwitchedOn<U, K>,
+    call: Call<'_>,
+) -> (Power<U, K>, Answer)
     ensures answer { result.1 ≡ (performed (said call.entry) (on_view U.Uplink.waiting K.Keeper.records handset)).answer }
     ensures after { power_view U.Uplink.waiting K.Keeper.records result.0 ≡ (performed (said call.entry) (on_view U.Uplink.waiting K.Keeper.records handset)).after }
 {

@@ -1,6 +1,6 @@
 use Rattle.std.proofs.Common.{sym}
 use Rattle.std.specs.Option.{option_map}
-use Rattle.requests.specs.State.{state_view}
+use Rattle.requests.specs.SoundViews.{sound_view}
 use Rattle.life.proofs.Looks.{look_still}
 use Rattle.life.proofs.perform.answer_on.Goals as goal
 
@@ -13,5 +13,5 @@ returns-in-Look g c =
     rw c.in-Look.is
     (record {
       answer = c.look.ensures;
-      after = sym (look_still (option_map (λ x. x.now) c.in-Look.slice) (option_map (λ x. x.now) c.in-Look.name) (state_view h.state) (g.U.Uplink.waiting h.uplink) (g.K.Keeper.records h.keeper));
+      after = sym (look_still (option_map (λ x. x.now) c.in-Look.slice) (option_map (λ x. x.now) c.in-Look.name) (sound_view h.state) (g.U.Uplink.waiting h.uplink) (g.K.Keeper.records h.keeper));
     })
