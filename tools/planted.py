@@ -26,10 +26,10 @@ def edits_of(path):
 def caught_by(output):
     """What the check said first of the function that is no longer proved."""
     for line in output.splitlines():
-        if re.match(r"fn .*: (no proof|not proved)", line):
-            name = re.match(r"fn (\S+?):(?!:)", line).group(1)
+        open_one = re.match(r"fn (\S+): (no proof|not proved)", line)
+        if open_one:
             goal = re.search(r"`search` did not prove `(.*?)`", line)
-            return f"{name}: {goal.group(1) if goal else line.split(': ', 1)[1]}"
+            return f"{open_one[1]}: {goal[1] if goal else open_one[2]}"
     for line in output.splitlines():
         if "error" in line:
             return re.sub(r"^\S*?(crates/)", r"\1", line)[:160]
