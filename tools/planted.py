@@ -5,7 +5,7 @@
 
 The bugs of a crate stand in tools/planted/CRATE.edits, separated by empty lines, each in three lines as a must-fail edit has
 them: `file: src/..`, `old: TEXT` (standing exactly once in that file), `new: TEXT`. For each a line is printed: caught, with the
-first function that is no longer proved and what is left open there; or NOT CAUGHT. The exit status is 1 if one was not caught.
+first function that is no longer proved; or NOT CAUGHT. The exit status is 1 if one was not caught.
 """
 import pathlib
 import re
@@ -28,8 +28,7 @@ def caught_by(output):
     for line in output.splitlines():
         open_one = re.match(r"fn (\S+): (no proof|not proved)", line)
         if open_one:
-            goal = re.search(r"`search` did not prove `(.*?)`", line)
-            return f"{open_one[1]}: {goal[1] if goal else open_one[2]}"
+            return f"{open_one[1]}: {open_one[2]}"
     for line in output.splitlines():
         if "error" in line:
             return re.sub(r"^\S*?(crates/)", r"\1", line)[:160]

@@ -145,29 +145,29 @@ module _ (t : TimersView) (s : SoundTimers t) where
   names : Filled 1 t.t3396 no_timers.t3396
   names = fill 1 (λ bs u. refl) (λ bs bs' u. refl) (λ u. refl) t.t3396 no_timers.t3396 (fits_free 1 t.t3396 _ s.t3396)
 
-  slice_name_places : Filled 2 t.t3584 no_timers.t3584
-  slice_name_places = fill 2 (λ bs u. refl) (λ bs bs' u. refl) (λ u. refl) t.t3584 no_timers.t3584 (fits_free 2 t.t3584 _ s.t3584)
+  slice_names : Filled 2 t.t3584 no_timers.t3584
+  slice_names = fill 2 (λ bs u. refl) (λ bs bs' u. refl) (λ u. refl) t.t3584 no_timers.t3584 (fits_free 2 t.t3584 _ s.t3584)
 
   slices : Filled 3 t.t3585 no_timers.t3585
   slices = fill 3 (λ bs u. refl) (λ bs bs' u. refl) (λ u. refl) t.t3585 no_timers.t3585 (fits_free 3 t.t3585 _ s.t3585)
 
   pub restored_timers : TimersView
-  restored_timers = record { t3396 = names.after; t3584 = slice_name_places.after; t3585 = slices.after }
+  restored_timers = record { t3396 = names.after; t3584 = slice_names.after; t3585 = slices.after }
 
   bars_load : loaded (map written (kept_bars t)) no_timers ≡ Some restored_timers
   unfolding restored_timers
   bars_load =
       ap (λ rs. loaded rs no_timers) (written_all (running_bars 1 t.t3396) (running_bars 2 t.t3584) (running_bars 3 t.t3585))
       ∙ names.loads no_timers (map written (running_bars 2 t.t3584) ++ (map written (running_bars 3 t.t3585) ++ [])) refl
-      ∙ slice_name_places.loads (with_table 1 names.after no_timers) (map written (running_bars 3 t.t3585) ++ []) refl
-      ∙ slices.loads (with_table 2 slice_name_places.after (with_table 1 names.after no_timers)) [] refl
+      ∙ slice_names.loads (with_table 1 names.after no_timers) (map written (running_bars 3 t.t3585) ++ []) refl
+      ∙ slices.loads (with_table 2 slice_names.after (with_table 1 names.after no_timers)) [] refl
 
   -- how many bars stand then
   count_then : standing_in (restored_timers) ≡ length (kept_bars t)
   unfolding restored_timers
   count_then =
       let a = names.count in
-      let b = slice_name_places.count in
+      let b = slice_names.count in
       let d = slices.count in
       let na = none_standing (name_key no_parts) place_count in
       let nb = none_standing (slice_name_key no_parts) place_count in
@@ -183,11 +183,11 @@ loads_back card t records full long s = record {
   loads = stored_loads card (kept_bars t) records full long (kept_most t (sound_full t s)) ∙ bars_load t s;
   sound = record {
     t3396 = filled_sound 1 t.t3396 no_timers.t3396 (names t s);
-    t3584 = filled_sound 2 t.t3584 no_timers.t3584 (slice_name_places t s);
+    t3584 = filled_sound 2 t.t3584 no_timers.t3584 (slice_names t s);
     t3585 = filled_sound 3 t.t3585 no_timers.t3585 (slices t s);
   };
   t3396 = same_timers 1 t.t3396 (name_key no_parts) (names t s);
-  t3584 = same_timers 2 t.t3584 (slice_name_key no_parts) (slice_name_places t s);
+  t3584 = same_timers 2 t.t3584 (slice_name_key no_parts) (slice_names t s);
   t3585 = same_timers 3 t.t3585 (slice_key no_parts) (slices t s);
   count = count_then t s;
 }

@@ -36,8 +36,8 @@ module _ (t : TimersView) (name-full : length t.t3396 ≡ place_count) (slice-na
   names : length (map (kept_bar 1) t.t3396) ≡ place_count
   names = length-map t.t3396 (kept_bar 1) ∙ name-full
 
-  slice_name_places : length (map (kept_bar 2) t.t3584) ≡ place_count
-  slice_name_places = length-map t.t3584 (kept_bar 2) ∙ slice-name-full
+  slice_names : length (map (kept_bar 2) t.t3584) ≡ place_count
+  slice_names = length-map t.t3584 (kept_bar 2) ∙ slice-name-full
 
   -- a place of the first, of the second and of the third table
   pub in_first : (i : ℕ) → i < place_count → get_or (kept_places t) i None ≡ kept_at 1 t.t3396 i
@@ -45,7 +45,7 @@ module _ (t : TimersView) (name-full : length t.t3396 ≡ place_count) (slice-na
 
   pub in_second : (i : ℕ) → place_count ≤ i → i < 2 * place_count → get_or (kept_places t) i None ≡ kept_at 2 t.t3584 (i - place_count)
   in_second i l h =
-      let m = slice_name_places in
+      let m = slice_names in
       get_or-append_right (map (kept_bar 1) t.t3396) _ place_count i None names l
       ∙ get_or_append_left (map (kept_bar 2) t.t3584) _ None (i - place_count) (omega arith)
 
@@ -53,5 +53,5 @@ module _ (t : TimersView) (name-full : length t.t3396 ≡ place_count) (slice-na
   in_third i l =
       let back : i - place_count - place_count ≡ i - 2 * place_count = omega arith in
       get_or-append_right (map (kept_bar 1) t.t3396) _ place_count i None names (omega arith)
-      ∙ get_or-append_right (map (kept_bar 2) t.t3584) _ place_count (i - place_count) None slice_name_places (omega arith)
+      ∙ get_or-append_right (map (kept_bar 2) t.t3584) _ place_count (i - place_count) None slice_names (omega arith)
       ∙ ap (kept_at 3 t.t3585) back

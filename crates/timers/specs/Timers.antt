@@ -75,5 +75,5 @@ ruled LiftAll k t = record { t3396 = lifted (name_key k) t.t3396; t3584 = lifted
 
 -- at most 32 different keys of each kind are claimed, by bars or by others that have these keys
 abbrev pub room_in : TimersView → List KeyOctets → List KeyOctets → List KeyOctets → Bool
-room_in v names slice_name_places slices =
-    nat_le (claimed v.t3396 names) place_count && (nat_le (claimed v.t3584 slice_name_places) place_count && nat_le (claimed v.t3585 slices) place_count)
+room_in v names slice_names slices =
+    nat_le (claimed v.t3396 names) place_count && (nat_le (claimed v.t3584 slice_names) place_count && nat_le (claimed v.t3585 slices) place_count)
