@@ -1,5 +1,6 @@
 pub mod Lengths
 pub mod Refusals
+pub mod KeyParts
 pub mod Parts
 pub mod Same
 pub mod Octets

@@ -1,16 +1,17 @@
 -- What a name and a slice hold, and which octets make one.
-use Rattle.std.specs.Prelude.{ℕ, Bool, cond, List, [], length, take, Some, None, Ok, Err, Option, Result}
+use Rattle.std.specs.Prelude.{ℕ, Bool, cond, List, [], length, Some, None, Ok, Err, Option, Result}
+use Rattle.octet_string.specs.Held.{held}
 use Rattle.keys.specs.declared.name.Name.{Name}
 use Rattle.keys.specs.declared.slice.Slice.{Slice}
 use Rattle.keys.specs.declared.refusal.PartRefusal.{PartRefusal}
 
 -- the octets of a name; none where it is absent
 abbrev pub name_octets : Name → List ℕ
-name_octets n = take n.len n.octets
+name_octets n = held n.octets
 
 -- the octets of a slice; none where it is absent
 abbrev pub slice_octets : Slice → List ℕ
-slice_octets s = take s.len s.octets
+slice_octets s = held s.octets
 
 -- the octets of what was made, or the refusal
 abbrev pub made_octets : {A : Type 0} → (A → List ℕ) → Result A PartRefusal → Result (List ℕ) PartRefusal

@@ -1,7 +1,7 @@
 ghost use Rattle.std.specs.Prelude.{◌≡◌, length};
 
 // A USIM identity of 8 octets.
-#[derive(Clone, Copy)]
+#[derive(Clone, Copy, PartialEq, Eq, Debug)]
 pub struct Card {
     octets: [u8; 8],
     ghost full: { length octets ≡ 8 },

@@ -1,118 +1,65 @@
 // The keys of the three back-off timers, and when two keys are the same.
-ghost use Rattle.std.specs.Prelude.{◌≡◌, Bool};
-ghost use Rattle.keys.specs.Same.{Laws};
+ghost use Rattle.std.specs.Prelude.{◌≡◌};
 ghost use Rattle.keys.specs.Octets.{KeyOctets, same_key};
-ghost use Rattle.keys.specs.Sames.{name_key_octets, slice_name_key_octets, slice_key_octets, same_name, same_slice, same_network, same_name_key, same_slice_name_key, same_slice_key};
-ghost use Rattle.keys.specs.Lawful.{name_key_lawful, slice_name_key_lawful, slice_key_lawful};
-ghost use Rattle.std.proofs.Common.{rules};
+ghost use Rattle.keys.specs.Lawful.{name_keys_lawful, slice_name_keys_lawful, slice_keys_lawful, name_key_spelled, slice_name_key_spelled, slice_key_spelled};
+ghost use Rattle.keys.specs.Same.{Laws};
+ghost use Rattle.keys.specs.Sames.{name_key_octets, slice_name_key_octets, slice_key_octets};
 
 use crate::name::Name;
 use crate::network::Network;
-use crate::octets::same_octets;
 use crate::slice::Slice;
 
 // The T3396 key: the name alone.
-#[derive(Clone, Copy)]
+#[derive(Clone, Copy, PartialEq, Eq, Debug)]
 pub struct NameKey {
     pub name: Name,
 }
 
 // The T3584 key: network, slice and name.
-#[derive(Clone, Copy)]
+#[derive(Clone, Copy, PartialEq, Eq, Debug)]
 pub struct SliceNameKey {
     pub network: Network,
     pub slice: Slice,
+    // The name, which may be the absent one.
     pub name: Name,
 }
 
 // The T3585 key: network and slice.
-#[derive(Clone, Copy)]
+#[derive(Clone, Copy, PartialEq, Eq, Debug)]
 pub struct SliceKey {
     pub network: Network,
     pub slice: Slice,
 }
 
-// What a back-off timer is kept on: a key is known by its octets, and its sameness is lawful.
-pub trait Key {
+// What a back-off timer is kept on: a key is known by its octets, and two keys are equal exactly where these are the same.
+pub trait Key: Eq {
     ghost octets: { Self → KeyOctets };
 
-    ghost same: { Self → Self → Bool };
+    ghost lawful: { Laws Self.PartialEq.eq };
 
-    fn is_same(&self, other: &Self) -> bool
-        ensures { result ≡ same self.now other.now };
-
-    ghost lawful: { Laws same };
-
-    ghost spelled: { (x y : Self) → same x y ≡ same_key (octets x) (octets y) };
-}
-
-impl Name {
-    // Two names are the same when their octets are.
-    pub fn is_same(&self, other: &Name) -> bool
-        ensures { result ≡ same_name self.now other.now }
-    {
-        same_octets(self.octets(), other.octets())
-    }
-}
-
-impl Slice {
-    // Two slices are the same when their octets are.
-    pub fn is_same(&self, other: &Slice) -> bool
-        ensures { result ≡ same_slice self.now other.now }
-    {
-        same_octets(self.octets(), other.octets())
-    }
-}
-
-impl Network {
-    // Two networks are the same when their octets are.
-    pub fn is_same(&self, other: &Network) -> bool
-        ensures { result ≡ same_network self.now other.now }
-    {
-        same_octets(self.octets(), other.octets())
-    }
+    ghost spelled: { (x y : Self) → Self.PartialEq.eq x y ≡ same_key (octets x) (octets y) };
 }
 
 impl Key for NameKey {
     ghost octets = { name_key_octets };
 
-    ghost same = { same_name_key };
+    ghost lawful = { name_keys_lawful };
 
-    ghost lawful = { name_key_lawful };
-
-    ghost spelled = { Prim.search rules };
-
-    fn is_same(&self, other: &NameKey) -> bool {
-        self.name.is_same(&other.name)
-    }
+    ghost spelled = { name_key_spelled };
 }
 
 impl Key for SliceNameKey {
     ghost octets = { slice_name_key_octets };
 
-    ghost same = { same_slice_name_key };
+    ghost lawful = { slice_name_keys_lawful };
 
-    ghost lawful = { slice_name_key_lawful };
-
-    ghost spelled = { Prim.search rules };
-
-    fn is_same(&self, other: &SliceNameKey) -> bool {
-        self.network.is_same(&other.network)
-            && self.slice.is_same(&other.slice)
-            && self.name.is_same(&other.name)
-    }
+    ghost spelled = { slice_name_key_spelled };
 }
 
 impl Key for SliceKey {
     ghost octets = { slice_key_octets };
 
-    ghost same = { same_slice_key };
+    ghost lawful = { slice_keys_lawful };
 
-    ghost lawful = { slice_key_lawful };
-
-    ghost spelled = { Prim.search rules };
-
-    fn is_same(&self, other: &SliceKey) -> bool {
-        self.network.is_same(&other.network) && self.slice.is_same(&other.slice)
-    }
+    ghost spelled = { slice_key_spelled };
 }

@@ -5,6 +5,6 @@ pub mod card;
 pub mod key;
 pub mod name;
 pub mod network;
-pub mod octets;
+pub mod parts;
 pub mod refusal;
 pub mod slice;

@@ -2,21 +2,18 @@
 ghost use Rattle.std.specs.Prelude.{◌≡◌};
 ghost use Rattle.keys.specs.Refusals.{part_question};
 
-// The part that is not lawful.
+// The part that is not lawful, with the number of its question: 3, is the name lawful; 4, is the slice lawful.
 #[derive(Clone, Copy, PartialEq, Eq, Debug)]
 pub enum PartRefusal {
-    Name,
-    Slice,
+    Name = 3,
+    Slice = 4,
 }
 
 impl PartRefusal {
-    // The number of the question that was answered no: 3, is the name lawful; 4, is the slice lawful.
+    // The number of the question that was answered no.
     pub fn number(self) -> u8
         ensures { result ≡ part_question self }
     {
-        match self {
-            PartRefusal::Name => 3,
-            PartRefusal::Slice => 4,
-        }
+        self as u8
     }
 }

@@ -1,16 +1,14 @@
-ghost use Rattle.std.specs.Prelude.{◌≡◌, ◌-◌, ◌≤◌, true, length, drop, replicate};
+ghost use Rattle.std.specs.Prelude.{◌≡◌, true, length};
+ghost use Rattle.octet_string.specs.Held.{held};
 ghost use Rattle.keys.specs.Lengths.{slice_held};
 
 pub mod make;
 
-// An S-NSSAI of 1, 2, 4, 5 or 8 octets, or the absent one, which has none. The octets behind it are zero,
-// so that a slice is known by its octets.
-#[derive(Clone, Copy)]
+use octet_string::OctetString;
+
+// An S-NSSAI of 1, 2, 4, 5 or 8 octets, or the absent one, which has none. A slice is known by its octets.
+#[derive(Clone, Copy, PartialEq, Eq, Debug)]
 pub struct Slice {
-    len: u8,
-    octets: [u8; 8],
-    ghost short: { len ≤ 8 },
-    ghost lawful: { slice_held len ≡ true },
-    ghost full: { length octets ≡ 8 },
-    ghost unused: { drop len octets ≡ replicate (8 - len) 0 },
+    octets: OctetString<8>,
+    ghost lawful: { slice_held (length (held octets)) ≡ true },
 }

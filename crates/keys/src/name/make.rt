@@ -1,18 +1,18 @@
-ghost use Rattle.std.specs.Prelude.{◌≡◌, []};
+ghost use Rattle.std.specs.Prelude.{◌≡◌, ◌≤◌, [], length};
 ghost use Rattle.std.specs.Option.{option_map};
 ghost use Rattle.keys.specs.Lengths.{name_length};
 ghost use Rattle.keys.specs.Parts.{name_octets, made_octets, made_of};
 ghost use Rattle.keys.specs.declared.refusal.PartRefusal.TheVariants as refusal;
 
 use super::Name;
-use crate::octets::padded;
 use crate::refusal::PartRefusal;
+use octet_string::OctetString;
 
 // Whether a name may have some number of octets.
 fn is_length(n: usize) -> bool
     ensures { result ≡ name_length n }
 {
-    n >= 1 && n <= 100
+    matches!(n, 1..=100)
 }
 
 impl Name {
@@ -21,8 +21,7 @@ impl Name {
         ensures { name_octets result ≡ [] }
     {
         Name {
-            len: 0,
-            octets: [0; 100],
+            octets: OctetString::empty(),
         }
     }
 
@@ -31,22 +30,21 @@ impl Name {
     pub fn new(octets: Option<&[u8]>) -> Result<Name, PartRefusal>
         ensures { made_octets name_octets result ≡ made_of name_length refusal.Name (option_map (λ x. x.now) octets.entry) }
     {
-        let Some(given) = octets else {
-            return Ok(Name::absent());
-        };
-        if !is_length(given.len()) {
-            return Err(PartRefusal::Name);
+        match octets {
+            None => Ok(Name::absent()),
+            Some(given) if is_length(given.len()) => {
+                let octets = OctetString::new(given).ok_or(PartRefusal::Name)?;
+                Ok(Name { octets })
+            }
+            Some(_) => Err(PartRefusal::Name),
         }
-        Ok(Name {
-            len: given.len() as u8,
-            octets: padded::<100>(given),
-        })
     }
 
     // The octets of the name; none where it is absent.
     pub fn octets(&self) -> &[u8]
-        ensures { result.now ≡ name_octets self.now }
+        ensures value { result.now ≡ name_octets self.now }
+        ensures len { length result.now ≤ 100 }
     {
-        &self.octets[0..self.len as usize]
+        self.octets.as_slice()
     }
 }
