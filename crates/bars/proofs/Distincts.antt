@@ -1,6 +1,6 @@
 -- Different keys: those of a row are as many as its timers, and no list covers them with fewer.
-use Rattle.std.proofs.Common.{◌≡◌, ℕ, ◌+◌, ◌<◌, ◌≤◌, Bool, true, false, cond, not, ◌&&◌, ◌||◌, List, [], ◌∷◌, ◌++◌, map, length, get_or, drop, sym, refl, ap, ◌∙◌, arith}
-use Rattle.std.proofs.lemmas.List.{at_drop_more}
+use Rattle.std.proofs.Common.{◌≡◌, ℕ, ◌+◌, ◌≤◌, Bool, true, false, cond, not, ◌&&◌, ◌||◌, List, [], ◌∷◌, ◌++◌, map, sym, refl, ap, ◌∙◌, arith}
+use Rattle.std.specs.List.{list_any}
 use Rattle.std.proofs.lemmas.Bool.{and_parts}
 use Rattle.std.proofs.lemmas.List.Sums.{sum_by-cons}
 use Rattle.keys.specs.Octets.{KeyOctets, same_key}
@@ -8,7 +8,7 @@ use Rattle.keys.specs.Lawful.{key_lawful as laws}
 use Rattle.bars.specs.declared.bar.Bar.{Bar}
 use Rattle.bars.specs.Bars.{bar_octets, shown, stands, holds, timer_on, free, apart, standing}
 use Rattle.bars.specs.Claimed.{among, distinct, covered, keys_of, claimed_keys, claimed}
-use Rattle.bars.proofs.Rows.{same_left}
+use Rattle.bars.proofs.Rows.{same_tests, same_left}
 
 -- the keys of a list that are not the same as one
 abbrev pub without : KeyOctets → List KeyOctets → List KeyOctets
@@ -121,22 +121,16 @@ among_append k (x ∷ xs) ys = let ih = among_append k xs ys in grind arith
 
 -- the loops, whatever the kind of key
 module _ {K : Type 0} (octets : K → KeyOctets) where
-  pub among_step : (xs : List K) (i : ℕ) (k : KeyOctets) (x : K) → i < length xs → x ≡ get_or xs i x → among k (map octets (drop i xs)) ≡ (same_key k (octets x) || among k (map octets (drop (i + 1) xs)))
-  among_step xs i k x h is = at_drop_more (λ ys. among k (map octets ys)) xs i x h ∙ ap (λ y. same_key k (octets y) || among k (map octets (drop (i + 1) xs))) (sym is)
-
-  pub distinct_step : (xs : List K) (i : ℕ) (x : K) → i < length xs → x ≡ get_or xs i x
-      → distinct (map octets (drop i xs)) ≡ cond (among (octets x) (map octets (drop (i + 1) xs))) 0 1 + distinct (map octets (drop (i + 1) xs))
-  distinct_step xs i x h is =
-      at_drop_more (λ ys. distinct (map octets ys)) xs i x h
-      ∙ ap (λ y. cond (among (octets y) (map octets (drop (i + 1) xs))) 0 1 + distinct (map octets (drop (i + 1) xs))) (sym is)
+  pub among_any : (k : KeyOctets) (same : K → Bool) → ((x : K) → same x ≡ same_key (octets x) k) → (xs : List K) → list_any same xs ≡ among k (map octets xs)
+  among_any k same e [] = refl
+  among_any k same e (x ∷ xs) =
+      let turned = same_tests (same_key (octets x) k) (same_key k (octets x)) (laws.symmetric (octets x) k) (laws.symmetric k (octets x)) in
+      ap (λ t. t || list_any same xs) (e x ∙ turned) ∙ ap (λ t. same_key k (octets x) || t) (among_any k same e xs)
 
   one_claimed : (b : Bar KeyOctets) (bs : List (Bar KeyOctets)) (ks : List KeyOctets)
       → claimed (b ∷ bs) ks ≡ cond (stands b.timer && not (among b.key (claimed_keys bs ks))) 1 0 + claimed bs ks
   one_claimed b bs ks = grind arith
 
-  pub claimed_step : (xs : List (Bar K)) (i : ℕ) (b : Bar K) (ks : List KeyOctets) → i < length xs → b ≡ get_or xs i b
-      → claimed (shown octets (drop i xs)) ks ≡ cond (stands b.timer && not (among (octets b.key) (claimed_keys (shown octets (drop (i + 1) xs)) ks))) 1 0 + claimed (shown octets (drop (i + 1) xs)) ks
-  claimed_step xs i b ks h is =
-      at_drop_more (λ ys. claimed (shown octets ys) ks) xs i b h
-      ∙ ap (λ y. claimed (shown octets (y ∷ drop (i + 1) xs)) ks) (sym is)
-      ∙ one_claimed (bar_octets octets b) (shown octets (drop (i + 1) xs)) ks
+  pub claimed_more : (b : Bar K) (bs : List (Bar K)) (ks : List KeyOctets)
+      → claimed (shown octets (b ∷ bs)) ks ≡ cond (stands b.timer && not (among (octets b.key) (claimed_keys (shown octets bs) ks))) 1 0 + claimed (shown octets bs) ks
+  claimed_more b bs ks = one_claimed (bar_octets octets b) (shown octets bs) ks

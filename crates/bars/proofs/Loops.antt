@@ -1,16 +1,18 @@
 -- Loops over a row of bars, whatever the kind of key.
-use Rattle.std.proofs.Common.{◌≡◌, ℕ, ◌+◌, ◌<◌, ◌≤◌, Bool, true, false, cond, not, List, [], ◌∷◌, ◌++◌, map, length, get_or, take, drop, set, Some, None, count_by, sym, refl, ap, ◌∙◌, append-nil, arith}
-use Rattle.std.proofs.lemmas.List.{at_drop_more, take_all, drop_all, length-map, get_or-map, map-set, set_past}
+use Rattle.std.proofs.Common.{◌≡◌, ℕ, ◌+◌, ◌<◌, ◌≤◌, Bool, true, false, cond, not, List, [], ◌∷◌, ◌++◌, map, length, get_or, take, drop, set, Some, None, Option, count_by, sym, refl, ap, ◌∙◌, append-nil, arith}
+use Rattle.std.proofs.lemmas.List.{at_drop_more, take_all, drop_all, length-map, get_or-map, map-set}
 use Rattle.std.proofs.lemmas.Bool.{cond-true, cond-false}
 use Rattle.std.proofs.lemmas.Bool.Decides.{nat_tests}
 use Rattle.std.proofs.lemmas.List.Edits.{map_over_more}
 use Rattle.std.proofs.lemmas.List.Sums.{sum_by_more, sum_by-cons}
 use Rattle.std.proofs.lemmas.Option.{slice_get-get_or, slice_get_past}
 use Rattle.std.specs.List.{slice_get, prefix_len}
+use Rattle.std.specs.Option.{option_or}
 use Rattle.backoff.specs.declared.timer.BackOffTimer.{BackOffTimer}
 use Rattle.keys.specs.Octets.{KeyOctets}
 use Rattle.bars.specs.declared.bar.Bar.{Bar}
-use Rattle.bars.specs.Bars.{bar_octets, shown, stands, standing, holds, timer_on, place_for, has_place, imposed, retimed}
+use Rattle.bars.specs.Places.{found, vacant}
+use Rattle.bars.specs.Bars.{bar_octets, shown, stands, standing, holds, timer_on, place_for, imposed, retimed}
 
 -- one bar more is counted
 pub standing_more : {K : Type 0} (bs : List (Bar K)) (i : ℕ) (b : Bar K) → i < length bs → b ≡ get_or bs i b
@@ -32,6 +34,15 @@ module _ {K : Type 0} (f : K → BackOffTimer → BackOffTimer) (xs ys : List (B
 
   pub retimed_length : (n : ℕ) → length xs ≡ n → length xs ≤ i → length ys ≡ n
   retimed_length n e h = ap length (retimed_all h) ∙ length-map xs (retimed f) ∙ e
+
+-- how long a front of standing bars is
+pub standing_front : {K : Type 0} (bs : List (Bar K)) → prefix_len (λ b. not (vacant b)) bs ≡ prefix_len (λ b. stands b.timer) bs
+standing_front [] = refl
+standing_front (b ∷ bs) = ap (λ n. cond (not (vacant b)) (1 + n) 0) (standing_front bs) ∙ ap (λ t. cond t (1 + prefix_len (λ x. stands x.timer) bs) 0) (twice (stands b.timer))
+  where
+    twice : (t : Bool) → not (not t) ≡ t
+    twice true = refl
+    twice false = refl
 
 module _ {K : Type 0} (octets : K → KeyOctets) where
   -- a rule of the key's octets, before and after the keys are shown by them
@@ -63,32 +74,20 @@ module _ {K : Type 0} (octets : K → KeyOctets) where
   bar_past bs i h = sym (slice_get_past (shown octets bs) i (rw length-map h))
 
   -- the place for a bar on a key, from the two searches for it
-  pub placed_held : (k : KeyOctets) (bs : List (Bar K)) (n : ℕ) → n ≡ prefix_len (λ b. not (holds k (bar_octets octets b))) bs → n < length bs → n ≡ place_for k (shown octets bs)
-  placed_held k bs n e h =
+  pub placed : (k : KeyOctets) (bs : List (Bar K)) (held free place : Option ℕ) → held ≡ found (prefix_len (λ b. not (holds k (bar_octets octets b))) bs) (length bs)
+      → free ≡ found (prefix_len (λ b. not (vacant b)) bs) (length bs) → place ≡ option_or held free → place ≡ found (place_for k (shown octets bs)) (length bs)
+  placed k bs held free place h f p =
       let same = leading_shown (λ b. not (holds k b)) bs in
+      let room = standing_front bs ∙ leading_shown (λ b. stands b.timer) bs in
       let long = length-map bs (bar_octets octets) in
       grind (arith, nat_tests)
 
-  pub placed_free : (k : KeyOctets) (bs : List (Bar K)) (n m : ℕ) → n ≡ prefix_len (λ b. not (holds k (bar_octets octets b))) bs → length bs ≤ n
-      → m ≡ prefix_len (λ b. stands b.timer) bs → m ≡ place_for k (shown octets bs)
-  placed_free k bs n m e h f =
-      let same = leading_shown (λ b. not (holds k b)) bs in
-      let room = leading_shown (λ b. stands b.timer) bs in
-      let long = length-map bs (bar_octets octets) in
-      grind (arith, nat_tests)
-
-  -- a bar put at the place for its key, or no place for it
-  pub put_there : (k : K) (t : BackOffTimer) (bs : List (Bar K)) (n : ℕ) → n ≡ place_for (octets k) (shown octets bs) → n < length bs
-      → (true ≡ has_place (octets k) (shown octets bs)) × (shown octets (set bs n (record { key = k; timer = t })) ≡ imposed (octets k) t (shown octets bs))
-  put_there k t bs n e h =
-      let long = length-map bs (bar_octets octets) in
-      (grind (arith, nat_tests), map-set (bar_octets octets) bs n (record { key = k; timer = t }) ∙ ap (λ i. set (shown octets bs) i (record { key = octets k; timer = t })) e)
-
-  pub put_nowhere : (k : K) (t : BackOffTimer) (bs : List (Bar K)) (n : ℕ) → n ≡ place_for (octets k) (shown octets bs) → length bs ≤ n
-      → (false ≡ has_place (octets k) (shown octets bs)) × (shown octets bs ≡ imposed (octets k) t (shown octets bs))
-  put_nowhere k t bs n e h =
-      let long = length-map bs (bar_octets octets) in
-      (grind (arith, nat_tests), sym (set_past (shown octets bs) (place_for (octets k) (shown octets bs)) _ (omega arith)))
+  -- a bar put at the place that was found for its key
+  pub put_at : (k : K) (t : BackOffTimer) (bs : List (Bar K)) (n : ℕ) → Some n ≡ found (place_for (octets k) (shown octets bs)) (length bs)
+      → shown octets (set bs n (record { key = k; timer = t })) ≡ imposed (octets k) t (shown octets bs)
+  put_at k t bs n e =
+      let same : n ≡ place_for (octets k) (shown octets bs) = grind arith in
+      map-set (bar_octets octets) bs n (record { key = k; timer = t }) ∙ ap (λ i. set (shown octets bs) i (record { key = octets k; timer = t })) same
 
   -- the loop that looks for the timer on a key
   module _ (k : KeyOctets) (xs : List (Bar K)) (i : ℕ) (b : Bar K) (h : i < length xs) (is : b ≡ get_or xs i b) where

@@ -2,3 +2,4 @@ pub mod Sizes
 pub mod Bars
 pub mod Claimed
 pub mod Laws
+pub mod Places

@@ -1,15 +1,15 @@
 // A bar, and rows of bars.
 ghost use Rattle.std.specs.Prelude.{◌≡◌, not, map, length, count_by};
 ghost use Rattle.std.specs.List.{prefix_len};
-ghost use Rattle.backoff.specs.Timer.{counted};
 ghost use Rattle.bars.specs.Bars.{bar_octets, shown, stands, holds, timer_on, place_for, has_place, imposed, retimed, lifting, reactivated};
+ghost use Rattle.bars.specs.Places.{found, vacant};
 
 use backoff::timer::BackOffTimer;
 use keys::key::Key;
 
 // A back-off timer on a key; it stands while it is running or deactivated. One and the same for
 // every kind of key.
-#[derive(Clone, Copy)]
+#[derive(Clone, Copy, PartialEq, Eq, Debug)]
 pub struct Bar<K> {
     pub key: K,
     pub timer: BackOffTimer,
@@ -23,7 +23,7 @@ pub fn is_standing(timer: BackOffTimer) -> bool
 }
 
 // A timer that is stopped if it was deactivated.
-fn activated(timer: BackOffTimer) -> BackOffTimer
+pub(crate) fn activated(timer: BackOffTimer) -> BackOffTimer
     ensures { result ≡ reactivated timer }
 {
     match timer {
@@ -37,14 +37,14 @@ impl<K: Key> Bar<K> {
     pub fn is_on(&self, key: &K) -> bool
         ensures { result ≡ holds (K.Key.octets key.now) (bar_octets K.Key.octets self.now) }
     {
-        is_standing(self.timer) && self.key.is_same(key)
+        is_standing(self.timer) && self.key == *key
     }
 
     // The bar's timer, stopped if it is on this key.
-    fn without(&self, key: &K) -> BackOffTimer
+    pub(crate) fn without(&self, key: &K) -> BackOffTimer
         ensures { result ≡ lifting (K.Key.octets key.now) (K.Key.octets self.now.key) self.now.timer }
     {
-        if self.key.is_same(key) {
+        if self.key == *key {
             BackOffTimer::Stopped
         } else {
             self.timer
@@ -64,103 +64,54 @@ pub fn timer_in<K: Key>(bars: &[Bar<K>], key: &K) -> BackOffTimer
     BackOffTimer::Stopped
 }
 
-// The first place with a bar on the key, or the row's length.
-fn place_of<K: Key>(bars: &[Bar<K>], key: &K) -> usize
-    ensures { result ≡ prefix_len (λ b. not (holds (K.Key.octets key.now) (bar_octets K.Key.octets b))) bars.now }
+// The first place with a bar on the key.
+fn held_place<K: Key>(bars: &[Bar<K>], key: &K) -> Option<usize>
+    ensures { result ≡ found (prefix_len (λ b. not (holds (K.Key.octets key.now) (bar_octets K.Key.octets b))) bars.now) (length bars.now) }
 {
-    for (i, bar) in bars.iter().enumerate() {
-        if bar.is_on(key) {
-            return i;
-        }
-    }
-    bars.len()
+    bars.iter().position(|bar| bar.is_on(key))
 }
 
-// The first place at which no bar stands, or the row's length.
-fn free_place<K>(bars: &[Bar<K>]) -> usize
-    ensures { result ≡ prefix_len (λ b. stands b.timer) bars.now }
-{
-    for (i, bar) in bars.iter().enumerate() {
-        if !is_standing(bar.timer) {
-            return i;
-        }
+impl<K> Bar<K> {
+    // Whether the bar does not stand, so that its place is free.
+    fn is_vacant(&self) -> bool
+        ensures { result ≡ vacant self.now }
+    {
+        !is_standing(self.timer)
     }
-    bars.len()
+}
+
+// The first place at which no bar stands.
+fn free_place<K>(bars: &[Bar<K>]) -> Option<usize>
+    ensures { result ≡ found (prefix_len (λ b. not (vacant b)) bars.now) (length bars.now) }
+{
+    bars.iter().position(|bar| bar.is_vacant())
 }
 
 // How many bars stand.
 pub fn standing_in<K>(bars: &[Bar<K>]) -> usize
     ensures { result ≡ count_by (λ b. stands b.timer) bars.now }
 {
-    let mut n = 0;
-    for bar in bars {
-        if is_standing(bar.timer) {
-            n += 1;
-        }
-    }
-    n
+    bars.iter().filter(|bar| is_standing(bar.timer)).count()
 }
 
-// Takes some seconds off every running timer.
-pub(crate) fn count_all<K: Key, const N: usize>(bars: &mut [Bar<K>; N], seconds: u32)
-    requires { length bars.old ≡ N }
-    ensures len { length bars.new ≡ N }
-    ensures after { bars.new ≡ map (retimed (λ _ t. counted seconds t)) bars.old }
+// The place for a bar on a key: where one stands on it, or else the first at which none stands.
+fn place_for<K: Key>(bars: &[Bar<K>], key: &K) -> Option<usize>
+    ensures { result ≡ found (place_for (K.Key.octets key.now) (shown K.Key.octets bars.now)) (length bars.now) }
 {
-    for bar in bars.iter_mut() {
-        bar.timer = bar.timer.count(seconds);
-    }
-}
-
-// Stops every deactivated timer.
-pub(crate) fn activate_all<K: Key, const N: usize>(bars: &mut [Bar<K>; N])
-    requires { length bars.old ≡ N }
-    ensures len { length bars.new ≡ N }
-    ensures after { bars.new ≡ map (retimed (λ _ t. reactivated t)) bars.old }
-{
-    for bar in bars.iter_mut() {
-        bar.timer = activated(bar.timer);
-    }
-}
-
-// Stops the timer on a key.
-pub(crate) fn lift_all<K: Key, const N: usize>(bars: &mut [Bar<K>; N], key: &K)
-    requires { length bars.old ≡ N }
-    ensures len { length bars.new ≡ N }
-    ensures after { bars.new ≡ map (retimed (λ k t. lifting (K.Key.octets key.now) (K.Key.octets k) t)) bars.old }
-{
-    for bar in bars.iter_mut() {
-        bar.timer = bar.without(key);
-    }
-}
-
-// The place for a bar on a key: where one stands on it, or else the first at which none stands; or the row's length.
-fn place_for<K: Key>(bars: &[Bar<K>], key: &K) -> usize
-    ensures { result ≡ place_for (K.Key.octets key.now) (shown K.Key.octets bars.now) }
-{
-    let held = place_of(bars, key);
-    if held < bars.len() {
-        held
-    } else {
-        free_place(bars)
-    }
+    held_place(bars, key).or(free_place(bars))
 }
 
 // Puts a timer at the place for its key; answers whether there is one.
-pub(crate) fn impose_in<K: Key + Copy, const N: usize>(
-    bars: &mut [Bar<K>; N],
-    key: K,
-    timer: BackOffTimer,
-) -> bool
-    requires { length bars.old ≡ N }
-    ensures len { length bars.new ≡ N }
+pub(crate) fn impose_in<K: Key + Copy>(bars: &mut [Bar<K>], key: K, timer: BackOffTimer) -> bool
+    ensures len { length bars.new ≡ length bars.old }
     ensures answer { result ≡ has_place (K.Key.octets key) (shown K.Key.octets bars.old) }
     ensures after { shown K.Key.octets bars.new ≡ imposed (K.Key.octets key) timer (shown K.Key.octets bars.old) }
 {
-    let place = place_for(bars, &key);
-    if place >= bars.len() {
-        return false;
+    match place_for(bars, &key) {
+        Some(place) => {
+            bars[place] = Bar { key, timer };
+            true
+        }
+        None => false,
     }
-    bars[place] = Bar { key, timer };
-    true
 }

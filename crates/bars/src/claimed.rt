@@ -11,12 +11,7 @@ use keys::key::Key;
 pub fn is_among<K: Key>(keys: &[K], key: &K) -> bool
     ensures { result ≡ among (K.Key.octets key.now) (map K.Key.octets keys.now) }
 {
-    for other in keys {
-        if key.is_same(other) {
-            return true;
-        }
-    }
-    false
+    keys.contains(key)
 }
 
 // How many different keys the list has.
@@ -24,10 +19,12 @@ pub fn distinct_in<K: Key>(keys: &[K]) -> usize
     ensures { result ≡ distinct (map K.Key.octets keys.now) }
 {
     let mut n = 0;
-    for i in 0..keys.len() {
-        if !is_among(&keys[i + 1..], &keys[i]) {
+    let mut rest = keys;
+    while let [key, later @ ..] = rest {
+        if !is_among(later, key) {
             n += 1;
         }
+        rest = later;
     }
     n
 }
@@ -51,10 +48,12 @@ fn last_in<K: Key>(bars: &[Bar<K>], keys: &[K]) -> usize
     ensures { result + distinct (map K.Key.octets keys.now) ≡ claimed (shown K.Key.octets bars.now) (map K.Key.octets keys.now) }
 {
     let mut n = 0;
-    for i in 0..bars.len() {
-        if is_last(&bars[i], &bars[i + 1..], keys) {
+    let mut rest = bars;
+    while let [bar, later @ ..] = rest {
+        if is_last(bar, later, keys) {
             n += 1;
         }
+        rest = later;
     }
     n
 }

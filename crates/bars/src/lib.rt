@@ -3,4 +3,5 @@
 
 pub mod bar;
 pub mod claimed;
+mod retime;
 pub mod table;

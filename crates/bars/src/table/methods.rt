@@ -9,8 +9,9 @@ ghost use Rattle.bars.specs.Sizes.{place_count};
 ghost use Rattle.bars.specs.Laws.{Imposes, Lifts, Reactivates, Counts};
 
 use super::{PLACES, Table};
-use crate::bar::{Bar, activate_all, count_all, impose_in, lift_all, standing_in, timer_in};
+use crate::bar::{Bar, activated, impose_in, standing_in, timer_in};
 use crate::claimed::claimed_in;
+use crate::retime::retime;
 use backoff::timer::BackOffTimer;
 use keys::key::Key;
 
@@ -56,7 +57,7 @@ impl<K: Key + Copy> Table<K> {
         ensures after { shown K.Key.octets self.new.places ≡ lifted (K.Key.octets key.now) (shown K.Key.octets self.old.places) }
         ensures law { Lifts (K.Key.octets key.now) (shown K.Key.octets self.old.places) (shown K.Key.octets self.new.places) }
     {
-        lift_all(&mut self.places, key);
+        retime(&mut self.places, |bar| bar.without(key));
     }
 
     // Stops every deactivated timer.
@@ -64,7 +65,7 @@ impl<K: Key + Copy> Table<K> {
         ensures after { shown K.Key.octets self.new.places ≡ deactivated_lifted (shown K.Key.octets self.old.places) }
         ensures law { Reactivates (shown K.Key.octets self.old.places) (shown K.Key.octets self.new.places) }
     {
-        activate_all(&mut self.places);
+        retime(&mut self.places, |bar| activated(bar.timer));
     }
 
     // Takes some seconds off every running timer; one with none left is stopped, and its place is free.
@@ -72,17 +73,14 @@ impl<K: Key + Copy> Table<K> {
         ensures after { shown K.Key.octets self.new.places ≡ counted_off seconds (shown K.Key.octets self.old.places) }
         ensures law { Counts seconds (shown K.Key.octets self.old.places) (shown K.Key.octets self.new.places) }
     {
-        count_all(&mut self.places, seconds);
+        retime(&mut self.places, |bar| bar.timer.count(seconds));
     }
 
     // The bar at a place, counted from 0, standing or not; none past the last place.
     pub fn bar_at(&self, place: usize) -> Option<Bar<K>>
         ensures { option_map (bar_octets K.Key.octets) result ≡ slice_get (shown K.Key.octets self.now.places) place }
     {
-        if place >= PLACES {
-            return None;
-        }
-        Some(self.places[place])
+        self.places.get(place).copied()
     }
 
     // How many different keys are claimed, by bars that stand or by others that have these keys; none
