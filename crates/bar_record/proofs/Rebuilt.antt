@@ -16,23 +16,21 @@ use Rattle.bar_record.specs.Record.{Kept, kind_number, key_octets, kept_view, se
 use Rattle.bar_record.specs.Answers.{Stands, key_made}
 use Rattle.bar_record.proofs.Standing.{no_octets}
 
+-- what a name holds is short
 name_short : (n : Name) → length (name_octets n) ≤ 100
-name_short n = let full = n.full in let short = n.short in let long = length-take-le n.len n.octets (omega arith) in omega arith
-
-slice_lawful : (s : Slice) → slice_held (length (slice_octets s)) ≡ true
-slice_lawful s = let full = s.full in let short = s.short in ap slice_held (length-take-le s.len s.octets (omega arith)) ∙ s.lawful
+name_short n = let o = n.octets in let short = o.short in let full = o.full in let long = length-take-le o.count o.octets (omega arith) in omega arith
 
 -- a key that is held is lawful
 pub key_lawful : (k : KeptKey) → key_kept (kind_number k) (key_octets k) ≡ true
 key_lawful (T3396 k) = le-leb (length (name_octets k.name)) 100 (name_short k.name)
 key_lawful (T3584 k) =
     let three = eq-eqb (length k.network.octets) 3 k.network.full in
-    let held = slice_lawful k.slice in
+    let held = k.slice.lawful in
     let short = le-leb (length (name_octets k.name)) 100 (name_short k.name) in
     and_from _ _ three (and_from _ _ held short)
 key_lawful (T3585 k) =
     let three = eq-eqb (length k.network.octets) 3 k.network.full in
-    let held = slice_lawful k.slice in
+    let held = k.slice.lawful in
     and_from _ _ three (and_from _ _ held refl)
 
 module _ (v : Kept) (rec : List ℕ) (is : rec ≡ written v) (law : lawful v ≡ true) where

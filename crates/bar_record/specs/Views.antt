@@ -1,5 +1,5 @@
 -- The parts of a kept bar, by their octets.
-use Rattle.bar_record.specs.declared.kept.Parts.{Parts}
+use Rattle.bar_record.specs.declared.parts.Parts.{Parts}
 use Rattle.bar_record.specs.Record.{Kept}
 
 abbrev pub parts_view : Parts → Kept

@@ -2,5 +2,6 @@
 #![tactic(auto)]
 
 pub mod kept;
+mod parts;
 pub mod read;
 pub mod write;

@@ -1,14 +1,13 @@
 // Reading the record of a bar.
-ghost use Rattle.std.specs.Prelude.{◌≡◌, ℕ, ◌+◌, ◌^◌, ◌<◌, ◌≤◌, true, List, length, Some, Decides, slice_index_or};
+ghost use Rattle.std.specs.Prelude.{◌≡◌, ℕ, ◌+◌, ◌^◌, ◌<◌, ◌≤◌, true, List, length, Some, Decides, slice_index};
 ghost use Rattle.keys.specs.Lengths.{name_length, slice_length, slice_held};
 ghost use Rattle.keys.specs.Parts.{name_octets, slice_octets};
 ghost use Rattle.std.specs.Option.{option_map};
 ghost use Rattle.bar_record.specs.Record.{kept_view, seconds_octet, seconds_kept, written};
-ghost use Rattle.bar_record.specs.Views.{parts_view};
 ghost use Rattle.bar_record.specs.Reading.{told};
 ghost use Rattle.bar_record.specs.Answers.{Stands, key_made, ReadExactly, ReadsBack};
 
-use crate::kept::{KeptBar, KeptKey, Parts, RECORD_LENGTH, is_kept, octet_of};
+use crate::kept::{KeptBar, KeptKey, RECORD_LENGTH, is_kept};
 use keys::key::{NameKey, SliceKey, SliceNameKey};
 use keys::name::Name;
 use keys::network::Network;
@@ -28,48 +27,38 @@ fn name_of(octets: &[u8]) -> Option<Name>
     Name::new(Some(octets)).ok()
 }
 
-// The slice that a record of 128 octets may have: its length in octet 4, its octets from 5 on.
-fn slice_in(record: &[u8]) -> Option<Slice>
-    requires { length «record».now ≡ 128 }
-    ensures { (xs : List ℕ) → slice_held (length xs) ≡ true → slice_index_or «record».now 4 0 ≡ length xs → Stands «record».now 5 xs → option_map slice_octets result ≡ Some xs }
+// The slice that a record may have: its length in octet 4, its octets from 5 on.
+fn slice_in(record: &[u8; RECORD_LENGTH]) -> Option<Slice>
+    ensures { (xs : List ℕ) → slice_held (length xs) ≡ true → slice_index «record».now 4 ≡ length xs → Stands «record».now 5 xs → option_map slice_octets result ≡ Some xs }
 {
-    let len = usize::from(record[4]);
-    if len == 0 {
-        return Some(Slice::absent());
+    match usize::from(record[4]) {
+        0 => Some(Slice::absent()),
+        len @ 1..=8 => slice_of(&record[5..5 + len]),
+        _ => None,
     }
-    if len > 8 {
-        return None;
-    }
-    slice_of(&record[5..5 + len])
 }
 
-// The name that a record of 128 octets may have: its length in octet 13, its octets from 14 on.
-fn name_in(record: &[u8]) -> Option<Name>
-    requires { length «record».now ≡ 128 }
-    ensures { (xs : List ℕ) → length xs ≤ 100 → slice_index_or «record».now 13 0 ≡ length xs → Stands «record».now 14 xs → option_map name_octets result ≡ Some xs }
+// The name that a record may have: its length in octet 13, its octets from 14 on.
+fn name_in(record: &[u8; RECORD_LENGTH]) -> Option<Name>
+    ensures { (xs : List ℕ) → length xs ≤ 100 → slice_index «record».now 13 ≡ length xs → Stands «record».now 14 xs → option_map name_octets result ≡ Some xs }
 {
-    let len = usize::from(record[13]);
-    if len == 0 {
-        return Some(Name::absent());
+    match usize::from(record[13]) {
+        0 => Some(Name::absent()),
+        len @ 1..=100 => name_of(&record[14..14 + len]),
+        _ => None,
     }
-    if len > 100 {
-        return None;
-    }
-    name_of(&record[14..14 + len])
 }
 
-// The network of a record of 128 octets.
-fn network_in(record: &[u8]) -> Network
-    requires { length «record».now ≡ 128 }
+// The network of a record.
+fn network_in(record: &[u8; RECORD_LENGTH]) -> Network
     ensures { (xs : List ℕ) → length xs ≡ 3 → Stands «record».now 1 xs → result.octets ≡ xs }
 {
     Network::new([record[1], record[2], record[3]])
 }
 
-// The seconds of a record of 128 octets.
-fn seconds_in(record: &[u8]) -> u32
-    requires { length «record».now ≡ 128 }
-    ensures { (s : ℕ) → s < 2 ^ 32 → ((i : ℕ) → i < 4 → slice_index_or «record».now (114 + i) 0 ≡ seconds_octet s i) → result ≡ s }
+// The seconds of a record.
+fn seconds_in(record: &[u8; RECORD_LENGTH]) -> u32
+    ensures { (s : ℕ) → s < 2 ^ 32 → ((i : ℕ) → i < 4 → slice_index «record».now (114 + i) ≡ seconds_octet s i) → result ≡ s }
 {
     16_777_216 * u32::from(record[114])
         + 65_536 * u32::from(record[115])
@@ -94,12 +83,9 @@ fn key_of(kind: u8, network: Network, slice: Slice, name: Name) -> Option<KeptKe
 }
 
 // The bar that a record may be of, by the octets at the fixed places; the others are not looked at.
-fn candidate(record: &[u8]) -> Option<KeptBar>
+fn candidate(record: &[u8; RECORD_LENGTH]) -> Option<KeptBar>
     ensures { ReadsBack «record».now result }
 {
-    if record.len() != RECORD_LENGTH {
-        return None;
-    }
     let slice = slice_in(record)?;
     let name = name_in(record)?;
     let key = key_of(record[0], network_in(record), slice, name)?;
@@ -109,26 +95,11 @@ fn candidate(record: &[u8]) -> Option<KeptBar>
     })
 }
 
-// Whether 128 octets are the record of some parts.
-fn is_same(record: &[u8], parts: Parts<'_>) -> bool
-    requires long { length «record».now ≡ 128 }
-    requires slice { length parts.slice.now ≤ 8 }
-    requires name { length parts.name.now ≤ 100 }
-    ensures { Decides result («record».now ≡ written (parts_view parts.entry)) }
-{
-    for i in 0..RECORD_LENGTH {
-        if record[i] != octet_of(parts, i) {
-            return false;
-        }
-    }
-    true
-}
-
 // Whether a record is that of a bar whose seconds can be kept.
-fn is_record_of(record: &[u8], bar: &KeptBar) -> bool
+fn is_record_of(record: &[u8; RECORD_LENGTH], bar: &KeptBar) -> bool
     ensures { Decides result ((«record».now ≡ written (kept_view bar.now)) × (seconds_kept bar.now.seconds ≡ true)) }
 {
-    record.len() == RECORD_LENGTH && is_kept(bar.seconds) && is_same(record, bar.parts())
+    is_kept(bar.seconds) && *record == bar.parts().record()
 }
 
 // Reads a record: the bar, if the record is lawful. What is read is a lawful bar whose record this is; what is not read
@@ -138,8 +109,9 @@ pub fn read(record: &[u8]) -> Option<KeptBar>
     ensures back { ReadsBack «record».now result }
     ensures told { option_map kept_view result ≡ told «record».now }
 {
-    let bar = candidate(record)?;
-    if is_record_of(record, &bar) {
+    let whole = record.as_array::<RECORD_LENGTH>()?;
+    let bar = candidate(whole)?;
+    if is_record_of(whole, &bar) {
         Some(bar)
     } else {
         None

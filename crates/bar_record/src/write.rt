@@ -1,28 +1,15 @@
 // Writing the record of a bar.
-ghost use Rattle.std.specs.Prelude.{◌≡◌, ◌≤◌, length};
-ghost use Rattle.bar_record.specs.Record.{kept_view, written};
-ghost use Rattle.bar_record.specs.Views.{parts_view};
+ghost use Rattle.std.specs.Prelude.{◌≡◌, length};
+ghost use Rattle.bar_record.specs.Record.{kept_view};
 ghost use Rattle.bar_record.specs.Answers.{write_answer, place_after};
 
-use crate::kept::{KeptBar, Parts, RECORD_LENGTH, is_kept, octet_of};
+use crate::kept::{KeptBar, RECORD_LENGTH, is_kept};
 
 // Why a record is not written: the place has not 128 octets, or the seconds are none or too many. The length is looked at first.
 #[derive(Clone, Copy, PartialEq, Eq, Debug)]
 pub enum RecordRefusal {
     Length,
     Seconds,
-}
-
-// Fills a place of 128 octets.
-fn fill(parts: Parts<'_>, record: &mut [u8])
-    requires slice { length parts.slice.now ≤ 8 }
-    requires name { length parts.name.now ≤ 100 }
-    requires long { length «record».old ≡ 128 }
-    ensures { «record».new ≡ written (parts_view parts.entry) }
-{
-    for i in 0..RECORD_LENGTH {
-        record[i] = octet_of(parts, i);
-    }
 }
 
 // Writes the record of a bar into a place of 128 octets. A refusal writes nothing.
@@ -36,6 +23,6 @@ pub fn write(bar: &KeptBar, record: &mut [u8]) -> Result<(), RecordRefusal>
     if !is_kept(bar.seconds) {
         return Err(RecordRefusal::Seconds);
     }
-    fill(bar.parts(), record);
+    record.copy_from_slice(&bar.parts().record());
     Ok(())
 }

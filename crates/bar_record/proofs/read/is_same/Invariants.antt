@@ -1,7 +1,0 @@
-use Rattle.std.proofs.Common.{◌≡◌, ℕ, ◌<◌, get_or}
-use Rattle.bar_record.specs.Record.{octet_at}
-use Rattle.bar_record.specs.Views.{parts_view}
-use Rattle.bar_record.proofs.read.is_same.Given as goal
-
-abbrev pub invariant-loop-i : goal.invariant-loop-i
-invariant-loop-i l = (k : ℕ) → k < l.i → get_or l.record k 0 ≡ octet_at (parts_view l.parts) k
