@@ -32,7 +32,8 @@ use Rattle.session.specs.Transitions.{taken_in, outcome_of}
 use Rattle.sessions.specs.Live.{live, live_keys}
 use Rattle.sessions.specs.Ptis.{some_pti, is_pending, pending}
 use Rattle.sessions.specs.Table.{session_of, changed}
-use Rattle.timers.specs.Parts.{session_parts, name_key, slice_name_key, slice_key}
+use Rattle.keys.specs.KeyParts.{name_key, slice_name_key, slice_key}
+use Rattle.session.specs.Session.{session_parts}
 use Rattle.timers.specs.Timers.{TimersView, set_on, ruled}
 use Rattle.ul_nas.specs.Message.{emergency}
 use Rattle.intake.proofs.Lines.{thins, inactive_still, ends_told, effect_active}

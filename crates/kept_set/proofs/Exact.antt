@@ -15,7 +15,7 @@ use Rattle.bar_record.specs.Record.{Kept, written, lawful}
 use Rattle.bar_record.specs.Reading.{told}
 use Rattle.bar_record.proofs.Standing.{not_none}
 use Rattle.bar_record.proofs.Telling.{told_written, told_lawful}
-use Rattle.timers.specs.Parts.{name_key, slice_name_key, slice_key}
+use Rattle.keys.specs.KeyParts.{name_key, slice_name_key, slice_key}
 use Rattle.timers.specs.Timers.{TimersView, no_parts, no_timers}
 use Rattle.timers.specs.Kept.{table_of, with_kept, takes_kept}
 use Rattle.kept_set.specs.Trailer.{trailer_number, trailer_card, trailer_count, last_records}

@@ -13,7 +13,7 @@ use Rattle.bars.specs.Bars.{stands, timer_on, apart, standing, deactivated_lifte
 use Rattle.bars.specs.Sizes.{place_count}
 use Rattle.bar_record.specs.Record.{Kept, written}
 use Rattle.keeper.specs.Sizes.{record_count}
-use Rattle.timers.specs.Parts.{name_key, slice_name_key, slice_key}
+use Rattle.keys.specs.KeyParts.{name_key, slice_name_key, slice_key}
 use Rattle.timers.specs.Timers.{TimersView, free_places, no_parts, no_timers}
 use Rattle.timers.specs.Kept.{kept_bar, with_table, standing_in}
 use Rattle.kept_set.specs.Trailer.{trailer_number, trailer, trailer_card, trailer_count, last_records}

@@ -18,7 +18,7 @@ use Rattle.bar_record.specs.Record.{Kept, key_kept, seconds_kept, lawful}
 use Rattle.bar_record.specs.Reading.{told}
 use Rattle.bar_record.proofs.Standing.{inner, not_none}
 use Rattle.bar_record.proofs.Telling.{told_lawful}
-use Rattle.timers.specs.Parts.{name_key, slice_name_key, slice_key}
+use Rattle.keys.specs.KeyParts.{name_key, slice_name_key, slice_key}
 use Rattle.timers.specs.Timers.{TimersView, no_timers, counted_timers, activated_timers, set_on, marked, ruled}
 use Rattle.timers.specs.Kept.{table_of, with_kept, takes_kept}
 use Rattle.kept_set.specs.Trailer.{trailer_number, trailer_card, trailer_count, last_records}

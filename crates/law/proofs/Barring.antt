@@ -19,7 +19,7 @@ use Rattle.session.specs.Session.{SessionView}
 use Rattle.session.specs.State.{inactive, active}
 use Rattle.sessions.specs.Live.{live_keys, with_key}
 use Rattle.sessions.specs.Table.{session_of}
-use Rattle.timers.specs.Parts.{session_parts}
+use Rattle.session.specs.Session.{session_parts}
 use Rattle.timers.specs.Timers.{room_in}
 use Rattle.ul_nas.specs.declared.message.RequestType.{RequestType}
 use Rattle.ul_nas.specs.Message.{request_type_of, emergency}

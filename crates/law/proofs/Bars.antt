@@ -28,7 +28,7 @@ use Rattle.session.specs.State.{inactive}
 use Rattle.session.specs.Time as time
 use Rattle.session.specs.Timers.{kind_number}
 use Rattle.sessions.specs.Live.{live, live_keys, with_key}
-use Rattle.timers.specs.Parts.{session_parts}
+use Rattle.session.specs.Session.{session_parts}
 use Rattle.timers.specs.Timers.{TimersView, counted_timers}
 use Rattle.timers.specs.Timers as tables
 use Rattle.ul_nas.specs.Message.{emergency}

@@ -11,7 +11,7 @@ use Rattle.keys.specs.Lawful.{key_lawful as laws}
 use Rattle.session.specs.Session.{SessionView, unused}
 use Rattle.session.specs.State.{inactive}
 use Rattle.sessions.specs.Live.{live, live_keys, with_key}
-use Rattle.timers.specs.Parts.{session_parts}
+use Rattle.session.specs.Session.{session_parts}
 use Rattle.ul_nas.specs.Message.{emergency}
 use Rattle.law.specs.Requests.{Asked}
 

@@ -108,7 +108,7 @@ establish_waiting s (Some v) w n =
 
 own_other : (s : StateView) (v : SessionView) → own_timers_stop s v ≡ Some question.Waiting → ⊥
 own_other s v = cond_both (emergency v.request_type) None _ (λ o. o ≡ Some question.Waiting → ⊥) (λ _ e. let z : ◌≡◌ {A = ℕ} 0 1 = cc in omega arith)
-    (λ _ e. timers_other (barred_by s.timers (Rattle.timers.specs.Parts.session_parts v)) e)
+    (λ _ e. timers_other (barred_by s.timers (Rattle.session.specs.Session.session_parts v)) e)
 
 modify_waiting : (s : StateView) (o : Option SessionView) (n : ℕ) → modify_on s o n ≡ Some question.Waiting → 8 ≤ n
 modify_waiting s None n = λ e. absurd (let z : ◌≡◌ {A = ℕ} 0 1 = cc in omega arith)

@@ -11,7 +11,7 @@ use Rattle.requests.specs.State.{StateView}
 use Rattle.session.specs.declared.timers.TimerKind.{TimerKind}
 use Rattle.session.specs.Session.{unused}
 use Rattle.session.specs.State.{inactive}
-use Rattle.timers.specs.Parts.{session_parts}
+use Rattle.session.specs.Session.{session_parts}
 use Rattle.timers.specs.Timers.{TimersView}
 use Rattle.uplink.specs.Sizes.{capacity}
 use Rattle.uplink.specs.Waiting.{takeable, after_take}

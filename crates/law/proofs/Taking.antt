@@ -19,7 +19,7 @@ use Rattle.session.specs.Timers.{message_rule}
 use Rattle.session.specs.Transitions.{line_of, outcome_of, taken_in}
 use Rattle.sessions.specs.Live.{live, live_keys}
 use Rattle.sessions.specs.Table.{session_of, place_of, put, changed}
-use Rattle.timers.specs.Parts.{session_parts}
+use Rattle.session.specs.Session.{session_parts}
 use Rattle.timers.specs.Timers as tables
 use Rattle.ul_nas.specs.Message.{emergency}
 use Rattle.uplink.specs.Sizes.{capacity}

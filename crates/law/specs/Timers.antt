@@ -17,7 +17,7 @@ use Rattle.session.specs.declared.timers.TimerRule.{TimerRule}
 use Rattle.session.specs.declared.timers.TimerRule.TheVariants.{NoMark, Mark, LiftAll}
 use Rattle.session.specs.Laws.{ends}
 use Rattle.session.specs.Timers.{kind_number, message_rule}
-use Rattle.timers.specs.Parts.{name_key, slice_name_key, slice_key}
+use Rattle.keys.specs.KeyParts.{name_key, slice_name_key, slice_key}
 use Rattle.ul_nas.specs.Message.{emergency}
 use Rattle.rules.specs.declared.answer.Answer.{Answer}
 use Rattle.rules.specs.declared.answer.TakenIn.{TakenIn as Taking}

@@ -6,7 +6,8 @@ use Rattle.session.specs.Session.{SessionView, name_key_of, slice_name_key_of, s
 use Rattle.sessions.specs.Live.{live_keys, with_key}
 use Rattle.session.specs.State.{inactive, active}
 use Rattle.sessions.specs.Table.{session_of}
-use Rattle.timers.specs.Parts.{name_key, slice_name_key, slice_key, session_parts}
+use Rattle.keys.specs.KeyParts.{name_key, slice_name_key, slice_key}
+use Rattle.session.specs.Session.{session_parts}
 use Rattle.ul_nas.specs.Message.{emergency}
 use Rattle.uplink.specs.Waiting.{room}
 use Rattle.requests.specs.Wanted.{WantedView}

@@ -6,7 +6,7 @@ ghost use Rattle.requests.specs.State.{state_view};
 ghost use Rattle.requests.specs.Decisions.{let_out_stop, timers_stop, room_stop, keys_stop, establish_stop, own_timers_stop, modify_stop, release_stop};
 ghost use Rattle.requests.specs.Wanted.{wanted_view};
 ghost use Rattle.session.specs.Session.{session_view};
-ghost use Rattle.timers.specs.Parts.{parts_view};
+ghost use Rattle.keys.specs.KeyParts.{parts_view};
 
 use crate::question::Question;
 use crate::state::State;

@@ -16,7 +16,7 @@ use Rattle.session.specs.Session.{SessionView}
 use Rattle.session.specs.Timers.{timer_rule}
 use Rattle.session.specs.Transitions.{taken_in, outcome_of}
 use Rattle.sessions.specs.Table.{session_of, changed}
-use Rattle.timers.specs.Parts.{session_parts}
+use Rattle.session.specs.Session.{session_parts}
 use Rattle.timers.specs.Timers.{TimersView, ruled}
 use Rattle.requests.specs.declared.state.Tally.{Tally}
 use Rattle.requests.specs.State.{StateView}

@@ -19,7 +19,8 @@ pub record SessionView : Type 0 where
   pub network : List ℕ
 
 abbrev pub session_view : Session → SessionView
-session_view s = record { state = s.state; request_type = s.request_type; slice = slice_octets s.slice; name = name_octets s.name; network = s.network.octets }
+session_view s =
+    record { state = s.state; request_type = s.request_type; slice = slice_octets s.parts.slice; name = name_octets s.parts.name; network = s.parts.network.octets }
 
 -- a session that was never established
 abbrev pub unused : SessionView
@@ -33,6 +34,10 @@ with_state s v = record { state = s; request_type = v.request_type; slice = v.sl
 abbrev pub established : RequestType → List ℕ → List ℕ → List ℕ → ℕ → SessionView
 established t slice name network p = record { state = ActivePending (new_request p); request_type = t; slice = slice; name = name; network = network }
 
+-- the same, from the parts of its keys
+abbrev pub established_with : RequestType → KeyOctets → ℕ → SessionView
+established_with t k p = established t k.slice k.name k.network p
+
 -- a modification request leaves
 abbrev pub modified : ℕ → SessionView → SessionView
 modified p = with_state (ModificationPending (new_request p))
@@ -44,6 +49,10 @@ released p = with_state (InactivePending (new_request p))
 -- the PTI of the waiting request
 abbrev pub waiting_pti : SessionView → Option ℕ
 waiting_pti v = option_map (λ w. w.pti) (waiting_of v.state)
+
+-- the parts of its keys
+abbrev pub session_parts : SessionView → KeyOctets
+session_parts v = record { network = v.network; slice = v.slice; name = v.name }
 
 -- the T3396 key: the name
 abbrev pub name_key_of : SessionView → KeyOctets

@@ -69,8 +69,8 @@ impl Session {
     {
         Establishment {
             request_type: self.request_type,
-            slice: present(self.slice.octets()),
-            name: present(self.name.octets()),
+            slice: present(self.parts.slice.octets()),
+            name: present(self.parts.name.octets()),
         }
     }
 

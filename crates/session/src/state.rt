@@ -1,6 +1,6 @@
 // The state of a session (TS 24.501, 6.1.3.2), and the request that waits in a pending one.
 ghost use Rattle.std.specs.Prelude.{◌≡◌};
-ghost use Rattle.session.specs.State.{new_request, asked, unasked};
+ghost use Rattle.session.specs.State.{new_request, asked, unasked, waiting_of};
 
 // A waiting request: its PTI, the seconds left of the 16 of T3580, T3581 or T3582, and how often these expired.
 #[derive(Clone, Copy, PartialEq, Eq, Debug)]
@@ -43,5 +43,19 @@ impl Waiting {
         ensures { result ≡ unasked self pti }
     {
         pti == 0 && pti != self.pti
+    }
+}
+
+impl State {
+    // The waiting request, of a pending state.
+    pub(crate) fn waiting(self) -> Option<Waiting>
+        ensures { result ≡ waiting_of self }
+    {
+        match self {
+            State::ActivePending(waiting)
+            | State::ModificationPending(waiting)
+            | State::InactivePending(waiting) => Some(waiting),
+            State::Inactive | State::Active => None,
+        }
     }
 }

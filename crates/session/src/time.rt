@@ -54,18 +54,16 @@ impl State {
         ensures { result ≡ counted seconds self }
     {
         match self {
-            State::ActivePending(waiting) => match waiting.waited(seconds) {
-                Some(waiting) => State::ActivePending(waiting),
-                None => State::Inactive,
-            },
-            State::ModificationPending(waiting) => match waiting.waited(seconds) {
-                Some(waiting) => State::ModificationPending(waiting),
-                None => State::Active,
-            },
-            State::InactivePending(waiting) => match waiting.waited(seconds) {
-                Some(waiting) => State::InactivePending(waiting),
-                None => State::Inactive,
-            },
+            State::ActivePending(waiting) => waiting
+                .waited(seconds)
+                .map_or(State::Inactive, |waiting| State::ActivePending(waiting)),
+            State::ModificationPending(waiting) => waiting.waited(seconds).map_or(
+                State::Active,
+                |waiting| State::ModificationPending(waiting),
+            ),
+            State::InactivePending(waiting) => waiting
+                .waited(seconds)
+                .map_or(State::Inactive, |waiting| State::InactivePending(waiting)),
             State::Inactive | State::Active => self,
         }
     }
@@ -77,12 +75,10 @@ impl Session {
         ensures answer { result ≡ counted_expiry seconds (session_view self.old).state }
         ensures after { session_view self.new ≡ counted_session seconds (session_view self.old) }
     {
-        let expiry = match self.state {
-            State::ActivePending(waiting)
-            | State::ModificationPending(waiting)
-            | State::InactivePending(waiting) => waiting.expiry(seconds),
-            State::Inactive | State::Active => Expiry::Nothing,
-        };
+        let expiry = self
+            .state
+            .waiting()
+            .map_or(Expiry::Nothing, |waiting| waiting.expiry(seconds));
         self.state = self.state.counted(seconds);
         expiry
     }

@@ -6,23 +6,19 @@ use backoff::octet::{TimerValue, read};
 use dl_nas::message::{Content, Received};
 use ul_nas::message::RequestType;
 
-// The three back-off timers: on the name; on network, slice and name; on network and slice.
+// The three back-off timers with their numbers: on the name; on network, slice and name; on network and slice.
 #[derive(Clone, Copy, PartialEq, Eq, Debug)]
 pub enum TimerKind {
-    T3396,
-    T3584,
-    T3585,
+    T3396 = 1,
+    T3584 = 2,
+    T3585 = 3,
 }
 
 impl TimerKind {
     pub fn number(self) -> u8
         ensures { result ≡ kind_number self }
     {
-        match self {
-            TimerKind::T3396 => 1,
-            TimerKind::T3584 => 2,
-            TimerKind::T3585 => 3,
-        }
+        self as u8
     }
 }
 

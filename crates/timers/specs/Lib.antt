@@ -1,3 +1,2 @@
-pub mod Parts
 pub mod Timers
 pub mod Kept

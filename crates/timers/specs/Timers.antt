@@ -15,7 +15,7 @@ use Rattle.session.specs.declared.timers.TimerRule.{TimerRule}
 use Rattle.session.specs.declared.timers.TimerRule.TheVariants.{NoMark, Mark, LiftAll}
 use Rattle.timers.specs.declared.timers.Timers.{Timers}
 use Rattle.timers.specs.declared.timers.methods.TimersOn.{TimersOn}
-use Rattle.timers.specs.Parts.{name_key, slice_name_key, slice_key}
+use Rattle.keys.specs.KeyParts.{name_key, slice_name_key, slice_key}
 
 pub record TimersView : Type 0 where
   pub t3396 : List (Bar KeyOctets)

@@ -8,7 +8,8 @@ use Rattle.session.specs.Transitions.{taken_in, outcome_of}
 use Rattle.sessions.specs.Laws.{all_differ}
 use Rattle.sessions.specs.Ptis.{waiting_ptis, pending}
 use Rattle.sessions.specs.Table.{session_of, changed}
-use Rattle.timers.specs.Parts.{parts_view, session_parts}
+use Rattle.keys.specs.KeyParts.{parts_view}
+use Rattle.session.specs.Session.{session_parts}
 use Rattle.timers.specs.Timers.{timers_view, ruled}
 use Rattle.requests.proofs.Thinning.{differ_thinner, lawful_thinner}
 use Rattle.intake.proofs.Kept.{total, out_with, thinner, claims_taken, sums_taken}

@@ -2,14 +2,14 @@
 ghost use Rattle.std.specs.Prelude.{◌≡◌, true, IfSome, if◌then◌else◌, Some, None, slice_index_or};
 ghost use Rattle.std.specs.Option.{option_map};
 ghost use Rattle.backoff.specs.declared.timer.BackOffTimer.TheVariants.{Running};
-ghost use Rattle.bars.specs.Bars.{shown, apart, imposed};
+ghost use Rattle.bars.specs.Bars.{shown, imposed};
 ghost use Rattle.bar_record.specs.Record.{kind_number, key_octets, kept_view, seconds_kept};
 ghost use Rattle.timers.specs.Timers.{timers_view};
 ghost use Rattle.timers.specs.Kept.{takes, takes_kept, with_kept, standing_in, kept_timer, kept_at, kept_places};
 
 use super::Timers;
 use backoff::timer::BackOffTimer;
-use bar_record::kept::{KeptBar, KeptKey, is_kept};
+use bar_record::kept::{KeptAs, KeptBar, KeptKey, is_kept};
 use bars::bar::is_standing;
 use bars::table::{PLACES, Table};
 use keys::key::Key;
@@ -18,15 +18,10 @@ use keys::key::Key;
 fn start_on<K: Key + Copy>(table: &mut Table<K>, key: K, seconds: u32) -> bool
     ensures answer { result ≡ takes (K.Key.octets key) (shown K.Key.octets table.old.places) }
     ensures after { shown K.Key.octets table.new.places ≡ (if result then imposed (K.Key.octets key) (Running seconds) (shown K.Key.octets table.old.places) else shown K.Key.octets table.old.places) }
-    ensures apart { apart (shown K.Key.octets table.old.places) ≡ true → apart (shown K.Key.octets table.new.places) ≡ true }
 {
-    if is_standing(table.timer_on(&key)) {
-        return false;
-    }
-    if table.standing() >= PLACES {
-        return false;
-    }
-    table.impose(key, BackOffTimer::Running(seconds))
+    !is_standing(table.timer_on(&key))
+        && table.standing() < PLACES
+        && table.impose(key, BackOffTimer::Running(seconds))
 }
 
 // What is kept of the timer on a key.
@@ -38,6 +33,15 @@ fn kept_of(key: KeptKey, timer: BackOffTimer) -> Option<KeptBar>
         BackOffTimer::Running(seconds) if is_kept(seconds) => Some(KeptBar { key, seconds }),
         _ => None,
     }
+}
+
+// The bar to keep at a place of a table.
+fn bar_in<K: KeptAs + Copy>(table: &Table<K>, place: usize) -> Option<KeptBar>
+    ensures view { option_map kept_view result ≡ kept_at K.KeptAs.kind (shown K.Key.octets table.now.places) place }
+    ensures seconds { IfSome result (λ b. seconds_kept b.seconds ≡ true) }
+{
+    let bar = table.bar_at(place)?;
+    kept_of(bar.key.kept(), bar.timer)
 }
 
 impl Timers {
@@ -61,50 +65,17 @@ impl Timers {
         self.t3396.standing() + self.t3584.standing() + self.t3585.standing()
     }
 
-    // The bar to keep at a place of the T3396 table.
-    fn name_bar(&self, place: usize) -> Option<KeptBar>
-        ensures view { option_map kept_view result ≡ kept_at 1 (timers_view self.now).t3396 place }
-        ensures seconds { IfSome result (λ b. seconds_kept b.seconds ≡ true) }
-    {
-        match self.t3396.bar_at(place) {
-            Some(bar) => kept_of(KeptKey::T3396(bar.key), bar.timer),
-            None => None,
-        }
-    }
-
-    // The bar to keep at a place of the T3584 table.
-    fn slice_name_bar(&self, place: usize) -> Option<KeptBar>
-        ensures view { option_map kept_view result ≡ kept_at 2 (timers_view self.now).t3584 place }
-        ensures seconds { IfSome result (λ b. seconds_kept b.seconds ≡ true) }
-    {
-        match self.t3584.bar_at(place) {
-            Some(bar) => kept_of(KeptKey::T3584(bar.key), bar.timer),
-            None => None,
-        }
-    }
-
-    // The bar to keep at a place of the T3585 table.
-    fn slice_bar(&self, place: usize) -> Option<KeptBar>
-        ensures view { option_map kept_view result ≡ kept_at 3 (timers_view self.now).t3585 place }
-        ensures seconds { IfSome result (λ b. seconds_kept b.seconds ≡ true) }
-    {
-        match self.t3585.bar_at(place) {
-            Some(bar) => kept_of(KeptKey::T3585(bar.key), bar.timer),
-            None => None,
-        }
-    }
-
     // The bar to keep at one of the 96 places of T3396, T3584 and T3585, one table after the other.
     pub fn running_at(&self, place: usize) -> Option<KeptBar>
         ensures view { option_map kept_view result ≡ slice_index_or (kept_places (timers_view self.now)) place None }
         ensures seconds { IfSome result (λ b. seconds_kept b.seconds ≡ true) }
     {
         if place < PLACES {
-            self.name_bar(place)
+            bar_in(&self.t3396, place)
         } else if place < 2 * PLACES {
-            self.slice_name_bar(place - PLACES)
+            bar_in(&self.t3584, place - PLACES)
         } else {
-            self.slice_bar(place - 2 * PLACES)
+            bar_in(&self.t3585, place - 2 * PLACES)
         }
     }
 }

@@ -1,20 +1,20 @@
 // What can be asked of a handset's timers, and done to them.
-ghost use Rattle.std.specs.Prelude.{◌≡◌, true, map, nat_le};
-ghost use Rattle.bars.specs.Bars.{shown, apart};
+ghost use Rattle.std.specs.Prelude.{◌≡◌, map, nat_le};
+ghost use Rattle.bars.specs.Bars.{shown};
 ghost use Rattle.bars.specs.Sizes.{place_count};
 ghost use Rattle.bars.specs.Claimed.{claimed};
 ghost use Rattle.keys.specs.Sames.{name_key_octets, slice_name_key_octets, slice_key_octets};
-ghost use Rattle.timers.specs.Parts.{parts_view};
+ghost use Rattle.keys.specs.KeyParts.{parts_view};
 ghost use Rattle.timers.specs.Timers.{timers_view, no_timers, timers_on, barred_by, counted_timers, activated_timers, set_on, ruled, room_in};
 
 use super::Timers;
-use crate::parts::KeyParts;
 use backoff::octet::TimerValue;
 use backoff::timer::BackOffTimer;
 use bars::table::{PLACES, Table};
 use keys::key::{Key, NameKey, SliceKey, SliceNameKey};
 use keys::name::Name;
 use keys::network::Network;
+use keys::parts::{KeyParts, PartsKey};
 use keys::slice::Slice;
 use session::timers::{TimerKind, TimerRule};
 
@@ -37,9 +37,9 @@ impl Timers {
             name: Name::absent(),
         };
         Timers {
-            t3396: Table::new(parts.name_key()),
-            t3584: Table::new(parts.slice_name_key()),
-            t3585: Table::new(parts.slice_key()),
+            t3396: Table::new(NameKey::of_parts(&parts)),
+            t3584: Table::new(SliceNameKey::of_parts(&parts)),
+            t3585: Table::new(SliceKey::of_parts(&parts)),
         }
     }
 
@@ -48,9 +48,9 @@ impl Timers {
         ensures { result ≡ timers_on (timers_view self.now) (parts_view parts.now) }
     {
         TimersOn {
-            t3396: self.t3396.timer_on(&parts.name_key()),
-            t3584: self.t3584.timer_on(&parts.slice_name_key()),
-            t3585: self.t3585.timer_on(&parts.slice_key()),
+            t3396: self.t3396.timer_on(&NameKey::of_parts(parts)),
+            t3584: self.t3584.timer_on(&SliceNameKey::of_parts(parts)),
+            t3585: self.t3585.timer_on(&SliceKey::of_parts(parts)),
         }
     }
 
@@ -96,23 +96,23 @@ impl Timers {
             TimerRule::NoMark => {}
             TimerRule::Mark(TimerKind::T3396, value) => set_on(
                 &mut self.t3396,
-                parts.name_key(),
+                NameKey::of_parts(parts),
                 value,
             ),
             TimerRule::Mark(TimerKind::T3584, value) => set_on(
                 &mut self.t3584,
-                parts.slice_name_key(),
+                SliceNameKey::of_parts(parts),
                 value,
             ),
             TimerRule::Mark(TimerKind::T3585, value) => set_on(
                 &mut self.t3585,
-                parts.slice_key(),
+                SliceKey::of_parts(parts),
                 value,
             ),
             TimerRule::LiftAll => {
-                self.t3396.lift(&parts.name_key());
-                self.t3584.lift(&parts.slice_name_key());
-                self.t3585.lift(&parts.slice_key());
+                self.t3396.lift(&NameKey::of_parts(parts));
+                self.t3584.lift(&SliceNameKey::of_parts(parts));
+                self.t3585.lift(&SliceKey::of_parts(parts));
             }
         }
     }
@@ -133,15 +133,11 @@ impl Timers {
 // Sets the timer on a key as a timer octet says: zero lifts the bar, seconds start the timer, deactivated deactivates it.
 fn set_on<K: Key + Copy>(table: &mut Table<K>, key: K, value: TimerValue)
     ensures after { shown K.Key.octets table.new.places ≡ set_on value (K.Key.octets key) (shown K.Key.octets table.old.places) }
-    ensures apart { apart (shown K.Key.octets table.old.places) ≡ true → apart (shown K.Key.octets table.new.places) ≡ true }
 {
-    match value {
-        TimerValue::Zero => table.lift(&key),
-        TimerValue::Seconds(seconds) => {
-            let _ = table.impose(key, BackOffTimer::Running(seconds));
-        }
-        TimerValue::Deactivated => {
-            let _ = table.impose(key, BackOffTimer::Deactivated);
+    match BackOffTimer::set_to(value) {
+        BackOffTimer::Stopped => table.lift(&key),
+        timer => {
+            let _ = table.impose(key, timer);
         }
     }
 }
@@ -150,8 +146,7 @@ fn set_on<K: Key + Copy>(table: &mut Table<K>, key: K, value: TimerValue)
 fn fits<K: Key + Copy>(table: &Table<K>, keys: &[K]) -> bool
     ensures { result ≡ nat_le (claimed (shown K.Key.octets table.now.places) (map K.Key.octets keys.now)) place_count }
 {
-    match table.claimed_with(keys) {
-        Some(claimed) => claimed <= PLACES,
-        None => false,
-    }
+    table
+        .claimed_with(keys)
+        .is_some_and(|claimed| claimed <= PLACES)
 }

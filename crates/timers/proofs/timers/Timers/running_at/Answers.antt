@@ -6,17 +6,17 @@ use Rattle.timers.proofs.timers.Timers.running_at.Goals as goal
 pub returns-then-place-lt-PLACES : goal.returns-then-place-lt-PLACES
 returns-then-place-lt-PLACES c =
     let t = c.args.self.now in
-    let e = c.name_bar.ensures in
+    let e = c.bar_in.ensures in
     record { view = e.view ∙ sym (in_first (timers_view t) (names_full t) (slice_names_full t) c.args.place (omega arith)); seconds = e.seconds }
 
 pub returns-then-place : goal.returns-then-place
 returns-then-place c =
     let t = c.args.self.now in
-    let e = c.slice_name_bar.ensures in
+    let e = c.bar_in-then-place.ensures in
     record { view = e.view ∙ sym (in_second (timers_view t) (names_full t) (slice_names_full t) c.args.place (omega arith) (omega arith)); seconds = e.seconds }
 
 pub returns-else-place : goal.returns-else-place
 returns-else-place c =
     let t = c.args.self.now in
-    let e = c.slice_bar.ensures in
+    let e = c.bar_in-else-place.ensures in
     record { view = e.view ∙ sym (in_third (timers_view t) (names_full t) (slice_names_full t) c.args.place (omega arith)); seconds = e.seconds }
