@@ -1,11 +1,15 @@
 -- One session more or less of a table.
-use Rattle.std.proofs.Common.{◌≡◌, ℕ, ◌+◌, ◌<◌, ◌≤◌, cond, ◌||◌, List, [], ◌∷◌, ◌++◌, map, length, get_or, take, drop, set, Some, None, Option, sym, refl, ap, ◌∙◌, append-nil, arith}
+use Rattle.std.proofs.Common.{◌≡◌, ℕ, ◌+◌, ◌<◌, ◌≤◌, cond, ◌||◌, List, [], ◌∷◌, ◌++◌, map, length, get_or, take, drop, set, Some, None, Option, sym, refl, ap, count_by, ◌∙◌, append-nil, arith}
 use Rattle.std.proofs.lemmas.List.{at_drop_more, length-map, get_or-map, map-set, take_all, drop_all}
 use Rattle.std.proofs.lemmas.List.Edits.{map_over_more}
 use Rattle.std.proofs.lemmas.Option.{slice_get-get_or}
 use Rattle.std.proofs.lemmas.Bool.Decides.{nat_tests}
-use Rattle.std.specs.List.{slice_get}
-use Rattle.std.specs.Option.{option_map}
+use Rattle.std.specs.List.{slice_get, list_any}
+use Rattle.std.proofs.lemmas.List.Sums.{sum_by-cons}
+use Rattle.std.specs.Option.{option_map, unwrap_or}
+use Rattle.session.specs.Time.{counted_expiry}
+use Rattle.session.specs.declared.outcome.Expiry.TheVariants.{Nothing}
+use Rattle.sessions.specs.Acts.{expiry_of}
 use Rattle.session.specs.declared.session.Session.{Session}
 use Rattle.session.specs.Session.{SessionView, session_view, waiting_pti, with_state}
 use Rattle.session.specs.declared.state.State.TheVariants.{Inactive}
@@ -24,12 +28,6 @@ length_with (Some q) ws = grind arith
 module _ (xs : List Session) (i : ℕ) (x : Session) (h : i < length xs) (is : x ≡ get_or xs i x) where
   pub at_session : {Y : Type 0} (F : List SessionView → Y) → F (views (drop i xs)) ≡ F (session_view x ∷ views (drop (i + 1) xs))
   at_session F = at_drop_more (λ ys. F (views ys)) xs i x h ∙ ap (λ y. F (session_view y ∷ views (drop (i + 1) xs))) (sym is)
-
-  pub waiting_step : (p : ℕ) → is_waiting p (views (drop i xs)) ≡ (among p (with_pti (waiting_pti (session_view x)) []) || is_waiting p (views (drop (i + 1) xs)))
-  waiting_step p = at_session (is_waiting p) ∙ among_with p (waiting_pti (session_view x)) (waiting_ptis (views (drop (i + 1) xs)))
-
-  pub pending_step : pending (views (drop i xs)) ≡ cond (is_pending (session_view x)) 1 0 + pending (views (drop (i + 1) xs))
-  pending_step = at_session pending ∙ length_with (waiting_pti (session_view x)) (waiting_ptis (views (drop (i + 1) xs)))
 
   -- the session at a place
   view_at : slice_get (views xs) i ≡ Some (session_view x)
@@ -56,25 +54,35 @@ module _ (xs : List Session) (full : length xs ≡ 15) (i k : ℕ) (e : Some i �
       ∙ ap (λ o. put (views xs) (Some i) (option_map rule o)) session_read
       ∙ ap (λ o. put (views xs) o (option_map rule (session_of k (views xs)))) e
 
--- a session that is made INACTIVE
-abbrev pub inactivated : Session → Session
-inactivated x = record { state = Inactive; request_type = x.request_type; slice = x.slice; name = x.name; network = x.network }
+-- what is asked of each session of a row
+pub waiting_any : (p : ℕ) (xs : List Session) → list_any (λ s. among p (with_pti (waiting_pti (session_view s)) [])) xs ≡ is_waiting p (views xs)
+waiting_any p [] = refl
+waiting_any p (x ∷ xs) =
+    ap (λ t. among p (with_pti (waiting_pti (session_view x)) []) || t) (waiting_any p xs)
+    ∙ sym (among_with p (waiting_pti (session_view x)) (waiting_ptis (views xs)))
 
-inactivated_views : (xs : List Session) → views (map inactivated xs) ≡ made_inactive (views xs)
-inactivated_views [] = refl
-inactivated_views (x ∷ xs) = ap (λ ys. with_state Inactive (session_view x) ∷ ys) (inactivated_views xs)
+pub pending_count : (xs : List Session) → count_by (λ s. is_pending (session_view s)) xs ≡ pending (views xs)
+pending_count [] = refl
+pending_count (x ∷ xs) =
+    sum_by-cons (λ s. cond (is_pending (session_view s)) 1 0) x xs
+    ∙ ap (λ n. cond (is_pending (session_view x)) 1 0 + n) (pending_count xs)
+    ∙ sym (length_with (waiting_pti (session_view x)) (waiting_ptis (views xs)))
 
 -- the loop that makes a row INACTIVE in place
-module _ (xs ys : List Session) (i : ℕ) (inv : ys ≡ map inactivated (take i xs) ++ drop i xs) where
-  pub inactive_more : (x : Session) → i < length xs → x ≡ get_or ys i x → set ys i (inactivated (get_or ys i x)) ≡ map inactivated (take (i + 1) xs) ++ drop (i + 1) xs
-  inactive_more x h is = ap (λ z. set ys i (inactivated z)) (sym is) ∙ map_over_more inactivated xs ys i x h inv is
+module _ (xs ys : List Session) (i : ℕ) (inv : views ys ≡ map (with_state Inactive) (take i (views xs)) ++ drop i (views xs)) where
+  pub inactive_more : (x y : Session) → i < length xs → i < length ys → x ≡ get_or ys i x → session_view y ≡ with_state Inactive (session_view x)
+      → views (set ys i y) ≡ map (with_state Inactive) (take (i + 1) (views xs)) ++ drop (i + 1) (views xs)
+  inactive_more x y h k is e =
+      map-set session_view ys i y ∙ ap (set (views ys) i) e
+      ∙ map_over_more (with_state Inactive) (views xs) (views ys) i (session_view x) (rw length-map h) inv
+      (ap session_view is ∙ sym (get_or-map session_view ys i x (session_view x) k))
 
-  inactive_all : length xs ≤ i → ys ≡ map inactivated xs
+  pub inactive_all : length xs ≤ i → views ys ≡ made_inactive (views xs)
   inactive_all h =
-      inv ∙ ap (λ t. map inactivated t ++ drop i xs) (take_all i xs h) ∙ ap (λ t. map inactivated xs ++ t) (drop_all i xs h) ∙ append-nil (map inactivated xs)
+      inv ∙ ap (λ t. map (with_state Inactive) t ++ drop i (views xs)) (take_all i (views xs) (rw length-map h))
+      ∙ ap (λ t. made_inactive (views xs) ++ t) (drop_all i (views xs) (rw length-map h)) ∙ append-nil (made_inactive (views xs))
 
-  pub inactive_length : length xs ≡ 15 → length xs ≤ i → length ys ≡ 15
-  inactive_length e h = ap length (inactive_all h) ∙ length-map xs inactivated ∙ e
-
-  pub inactive_views : length xs ≤ i → views ys ≡ made_inactive (views xs)
-  inactive_views h = ap views (inactive_all h) ∙ inactivated_views xs
+-- what becomes of the waiting request of a session that is there
+pub expiry_told : (seconds : ℕ) (o : Option SessionView) → unwrap_or (option_map (λ v. counted_expiry seconds v.state) o) Nothing ≡ expiry_of seconds o
+expiry_told seconds None = refl
+expiry_told seconds (Some v) = refl

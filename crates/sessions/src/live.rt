@@ -1,7 +1,7 @@
 ghost use Rattle.std.specs.Prelude.{◌≡◌, ◌≤◌, length};
 
 pub mod methods;
-pub mod session_key;
+pub mod of_sessions;
 
 // The keys of live sessions, with room for the key of one request more: at most 16.
 #[derive(Drop)]

@@ -19,8 +19,7 @@ impl<K: Copy> LiveKeys<K> {
     pub fn as_slice(&self) -> &[K]
         ensures { result.now ≡ listed self.now }
     {
-        let all = &self.keys[..];
-        &all[0..self.count]
+        &self.keys[..self.count]
     }
 
     // Puts a key behind the others, where there is room.

@@ -1,5 +1,6 @@
 // What the table tells: a session, and the PTIs of the waiting requests.
-ghost use Rattle.std.specs.Prelude.{◌≡◌, true, false, [], length, replicate, Some};
+ghost use Rattle.std.specs.Prelude.{◌≡◌, true, false, [], replicate, Some, count_by};
+ghost use Rattle.std.specs.List.{list_any};
 ghost use Rattle.std.specs.Option.{option_map};
 ghost use Rattle.session.specs.Session.{session_view, unused, waiting_pti};
 ghost use Rattle.sessions.specs.Table.{views, sessions_view, place_of, session_of, made_inactive};
@@ -7,16 +8,14 @@ ghost use Rattle.sessions.specs.Ptis.{with_pti, among, is_waiting, is_pending, p
 
 use super::Sessions;
 use session::session::Session;
-use session::state::State;
 
 // The place of an identity.
 pub(crate) fn place_of(identity: u8) -> Option<usize>
     ensures { result ≡ place_of identity }
 {
-    if identity >= 1 && identity <= 15 {
-        Some(identity as usize - 1)
-    } else {
-        None
+    match identity {
+        1..=15 => Some(usize::from(identity) - 1),
+        _ => None,
     }
 }
 
@@ -31,45 +30,32 @@ fn is_pending(session: &Session) -> bool
 fn has_pti(session: &Session, pti: u8) -> bool
     ensures { result ≡ among pti (with_pti (waiting_pti (session_view session.now)) []) }
 {
-    match session.waiting_pti() {
-        Some(waiting) => pti == waiting,
-        None => false,
-    }
+    session.waiting_pti() == Some(pti)
 }
 
 // Whether a waiting request of some sessions has this PTI.
 fn is_waiting_in(sessions: &[Session], pti: u8) -> bool
-    ensures { result ≡ is_waiting pti (views sessions.now) }
+    ensures { result ≡ list_any (λ s. among pti (with_pti (waiting_pti (session_view s)) [])) sessions.now }
 {
-    for session in sessions {
-        if has_pti(session, pti) {
-            return true;
-        }
-    }
-    false
+    sessions.iter().any(|session| has_pti(session, pti))
 }
 
 // How many requests of some sessions wait.
 fn pending_in(sessions: &[Session]) -> usize
-    ensures { result ≡ pending (views sessions.now) }
+    ensures { result ≡ count_by (λ s. is_pending (session_view s)) sessions.now }
 {
-    let mut n = 0;
-    for session in sessions {
-        if is_pending(session) {
-            n += 1;
-        }
-    }
-    n
+    sessions
+        .iter()
+        .filter(|session| is_pending(session))
+        .count()
 }
 
 // Makes every session INACTIVE.
-fn make_all_inactive(sessions: &mut [Session; 15])
-    requires { length sessions.old ≡ 15 }
-    ensures len { length sessions.new ≡ 15 }
-    ensures after { views sessions.new ≡ made_inactive (views sessions.old) }
+fn make_all_inactive(sessions: &mut [Session])
+    ensures { views sessions.new ≡ made_inactive (views sessions.old) }
 {
     for session in sessions.iter_mut() {
-        session.state = State::Inactive;
+        session.deactivate();
     }
 }
 

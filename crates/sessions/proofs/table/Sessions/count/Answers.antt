@@ -1,13 +1,18 @@
-use Rattle.std.proofs.Common.{ap, ◌∙◌}
-use Rattle.session.specs.Time.{counted_session}
-use Rattle.sessions.specs.Acts.{expiry_of}
-use Rattle.sessions.proofs.Steps.{session_read, changed_at}
+use Rattle.std.proofs.Common.{rules, ap, ◌∙◌}
+use Rattle.std.specs.Option.{unwrap_or}
+use Rattle.session.specs.Time.{counted_expiry, counted_session}
+use Rattle.session.specs.declared.outcome.Expiry.TheVariants.{Nothing}
+use Rattle.sessions.specs.Table.{session_of, sessions_view}
+use Rattle.sessions.proofs.Steps.{expiry_told}
 use Rattle.sessions.proofs.table.Sessions.count.Goals as goal
 
 pub returns : goal.returns
 returns c =
+    let seconds = c.args.seconds in
     record {
-      answer = c.count-expiry.ensures.answer ∙ ap (expiry_of c.args.seconds) (session_read c.args.self.now.records c.args.self.now.full c.in-Some.place c.args.identity c.in-Some.ensures c.index-self-place.result c.index-self-place.is);
-      after = changed_at c.args.self.now.records c.args.self.now.full c.in-Some.place c.args.identity c.in-Some.ensures c.index-self-place.result c.index-self-place.is
-          c.count-expiry.new.self (counted_session c.args.seconds) c.count-expiry.ensures.after;
+      answer =
+          c.unwrap_or.ensures
+          ∙ ap (λ o. unwrap_or o Nothing) (c.act.ensures.answer (λ v. counted_expiry seconds v.state) (λ s s' r k. search rules))
+          ∙ expiry_told seconds (session_of c.args.identity (sessions_view c.args.self.now));
+      after = c.act.ensures.after (counted_session seconds) (λ s s' r k. search rules);
     }

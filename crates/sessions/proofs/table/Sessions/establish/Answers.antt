@@ -1,9 +1,7 @@
-use Rattle.keys.specs.Parts.{name_octets, slice_octets}
-use Rattle.session.specs.Session.{established}
-use Rattle.sessions.proofs.Steps.{changed_at}
+use Rattle.std.proofs.Common.{rules}
+use Rattle.keys.specs.KeyParts.{parts_view}
+use Rattle.session.specs.Session.{established_with}
 use Rattle.sessions.proofs.table.Sessions.establish.Goals as goal
 
 pub returns : goal.returns
-returns c =
-    changed_at c.args.self.now.records c.args.self.now.full c.in-Some.place c.args.identity c.in-Some.ensures c.index-self-place.result c.index-self-place.is
-    c.establish.new.self (λ _. established c.args.request_type (slice_octets c.args.slice) (name_octets c.args.name) c.args.network.octets c.args.pti) c.establish.ensures
+returns c = c.act.ensures.after (λ _. established_with c.args.request_type (parts_view c.args.parts) c.args.pti) (λ s s' r k. search rules)

@@ -1,8 +1,6 @@
+use Rattle.std.proofs.Common.{rules}
 use Rattle.session.specs.Session.{modified}
-use Rattle.sessions.proofs.Steps.{changed_at}
 use Rattle.sessions.proofs.table.Sessions.modify.Goals as goal
 
 pub returns : goal.returns
-returns c =
-    changed_at c.args.self.now.records c.args.self.now.full c.in-Some.place c.args.identity c.in-Some.ensures c.index-self-place.result c.index-self-place.is
-    c.modify.new.self (modified c.args.pti) c.modify.ensures
+returns c = c.act.ensures.after (modified c.args.pti) (λ s s' r k. search rules)
