@@ -7,6 +7,7 @@ mod tests {
     use dl_nas::message::{Content, Received};
     use keys::name::Name;
     use keys::network::Network;
+    use keys::parts::KeyParts;
     use keys::slice::Slice;
     use session::messages::{PendingRefusal, write_reply};
     use session::outcome::{Ended, Expiry, Outcome, Reply};
@@ -407,13 +408,12 @@ mod tests {
             expiries: 0,
         };
         let mut session = Session::unused();
-        session.establish(
-            RequestType::Initial,
-            Slice::absent(),
-            Name::absent(),
-            Network::new([1, 2, 3]),
-            7,
-        );
+        let parts = KeyParts {
+            network: Network::new([1, 2, 3]),
+            slice: Slice::absent(),
+            name: Name::absent(),
+        };
+        session.establish(RequestType::Initial, parts, 7);
         expires(&rt, session, State::ActivePending(fresh), State::Inactive);
         session.modify(7);
         expires(
@@ -442,22 +442,15 @@ mod tests {
             Err(PendingRefusal::NotPending)
         );
         assert!(rt; out == [0u8; 128]);
-        session.establish(
-            RequestType::Initial,
+        let parts = KeyParts {
+            network: Network::new([1, 2, 3]),
             slice,
             name,
-            Network::new([1, 2, 3]),
-            1,
-        );
+        };
+        session.establish(RequestType::Initial, parts, 1);
         assert_eq!(rt; session.write_pending(5, &mut out), Ok(24));
         assert!(rt; out[0..24] == worked_request()[0..24]);
-        session.establish(
-            RequestType::InitialEmergency,
-            slice,
-            name,
-            Network::new([1, 2, 3]),
-            1,
-        );
+        session.establish(RequestType::InitialEmergency, parts, 1);
         assert_eq!(rt;
             session.write_pending(5, &mut out),
             Err(PendingRefusal::NotWritten(WriteRefusal::NotLawful))

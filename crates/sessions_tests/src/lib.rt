@@ -7,6 +7,7 @@ mod tests {
     use keys::key::{NameKey, SliceKey};
     use keys::name::Name;
     use keys::network::Network;
+    use keys::parts::KeyParts;
     use keys::slice::Slice;
     use session::outcome::Expiry;
     use sessions::live::LiveKeys;
@@ -25,8 +26,12 @@ mod tests {
         let Ok(name) = Name::new(Some(&[name])) else {
             return Err(Fail::new("name"));
         };
-        let network = Network::new([0x02, 0xF8, 0x39]);
-        sessions.establish(identity, request_type, Slice::absent(), name, network, pti);
+        let parts = KeyParts {
+            network: Network::new([0x02, 0xF8, 0x39]),
+            slice: Slice::absent(),
+            name,
+        };
+        sessions.establish(identity, request_type, parts, pti);
         Ok(())
     }
 
