@@ -1,4 +1,5 @@
 mod Keys
+pub mod Admitted
 pub mod Rows
 pub mod Thinning
 pub mod Leaving

@@ -1,5 +1,5 @@
 -- Which question stops a request, if one does.
-use Rattle.std.specs.Prelude.{ℕ, cond, not, Some, None, Option, nat_lt}
+use Rattle.std.specs.Prelude.{ℕ, cond, not, Some, None, Ok, Err, Option, Result, nat_lt}
 use Rattle.std.specs.Option.{option_map}
 use Rattle.keys.specs.Octets.{KeyOctets}
 use Rattle.session.specs.Session.{SessionView, name_key_of, slice_name_key_of, slice_key_of}
@@ -35,6 +35,11 @@ room_stop s k =
     (with_key (slice_name_key k) (live_keys slice_name_key_of s.sessions))
     (with_key (slice_key k) (live_keys slice_key_of s.sessions)))
     None (Some question.Claimed)
+
+-- a request that no question stops is admitted
+abbrev pub admitted : Option Question → Result (Unit {0}) Question
+admitted None = Ok tt
+admitted (Some q) = Err q
 
 -- the first of two that stops
 abbrev pub or_else : Option Question → Option Question → Option Question

@@ -1,5 +1,7 @@
 -- The questions, by their numbers.
 use Rattle.std.specs.Prelude.{ℕ}
+use Rattle.keys.specs.declared.refusal.PartRefusal.{PartRefusal}
+use Rattle.keys.specs.declared.refusal.PartRefusal.TheVariants as part
 use Rattle.session.specs.declared.timers.TimerKind.{TimerKind}
 use Rattle.session.specs.declared.timers.TimerKind.TheVariants as timer
 use Rattle.requests.specs.declared.question.Question.{Question}
@@ -25,3 +27,8 @@ abbrev pub timer_question : TimerKind → Question
 timer_question timer.T3396 = T3396
 timer_question timer.T3584 = T3584
 timer_question timer.T3585 = T3585
+
+-- the question of each part
+abbrev pub part_stop : PartRefusal → Question
+part_stop part.Name = Name
+part_stop part.Slice = Slice

@@ -1,6 +1,7 @@
 -- What an establishment request asks for, and the questions 1 to 4.
 use Rattle.std.specs.Prelude.{ℕ, Bool, true, cond, not, ◌&&◌, ◌||◌, List, [], length, is_some, Some, None, Ok, Err, Option, Result}
 use Rattle.keys.specs.Lengths.{name_length, slice_length}
+use Rattle.keys.specs.Octets.{KeyOctets}
 use Rattle.keys.specs.Parts.{name_octets, slice_octets}
 use Rattle.ul_nas.specs.declared.message.RequestType.{RequestType}
 use Rattle.ul_nas.specs.Message.{emergency, request_type_of}
@@ -16,6 +17,10 @@ pub record WantedView : Type 0 where
 
 abbrev pub wanted_view : Wanted → WantedView
 wanted_view w = record { request_type = w.request_type; slice = slice_octets w.slice; name = name_octets w.name }
+
+-- the keys of a request in a network
+abbrev pub keys_in : List ℕ → WantedView → KeyOctets
+keys_in network w = record { network = network; slice = w.slice; name = w.name }
 
 abbrev pub told_wanted : Result Wanted Question → Result WantedView Question
 told_wanted (Ok w) = Ok (wanted_view w)

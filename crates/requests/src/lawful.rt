@@ -26,9 +26,7 @@ impl LawfulWanted {
     ) -> Result<LawfulWanted, Question>
         ensures { told_lawful result ≡ wanted_of request_type (option_map (λ x. x.now) slice.entry) (option_map (λ x. x.now) name.entry) }
     {
-        match Wanted::new(request_type, slice, name) {
-            Ok(plain) => Ok(LawfulWanted { plain }),
-            Err(question) => Err(question),
-        }
+        let plain = Wanted::new(request_type, slice, name)?;
+        Ok(LawfulWanted { plain })
     }
 }

@@ -36,17 +36,11 @@ impl State {
         ensures pti { given_pti result ≡ pti_unless (establish_stop (state_view self.old) identity (wanted_view wanted.now) waiting) (state_view self.old) }
         ensures state { state_view self.new ≡ after_request result (let_out_establishment identity (wanted_view wanted.now)) (state_view self.old) }
     {
-        if let Some(question) = self.establishment_stopped_by(identity, wanted, waiting) {
-            return Err(question);
-        }
+        self.admit_establishment(identity, wanted, waiting)?;
         let pti = self.give_pti();
-        let Wanted {
-            request_type,
-            slice,
-            name,
-        } = *wanted;
+        let parts = wanted.parts(self.network);
         self.sessions
-            .establish(identity, request_type, slice, name, self.network, pti);
+            .establish(identity, wanted.request_type, parts, pti);
         Ok(pti)
     }
 
@@ -56,9 +50,7 @@ impl State {
         ensures pti { given_pti result ≡ pti_unless (modify_stop (state_view self.old) identity waiting) (state_view self.old) }
         ensures state { state_view self.new ≡ after_request result (let_out_modification identity) (state_view self.old) }
     {
-        if let Some(question) = self.modification_stopped_by(identity, waiting) {
-            return Err(question);
-        }
+        self.admit_modification(identity, waiting)?;
         let pti = self.give_pti();
         self.sessions.modify(identity, pti);
         Ok(pti)
@@ -70,9 +62,7 @@ impl State {
         ensures pti { given_pti result ≡ pti_unless (release_stop (state_view self.old) identity waiting) (state_view self.old) }
         ensures state { state_view self.new ≡ after_request result (let_out_release identity) (state_view self.old) }
     {
-        if let Some(question) = self.release_stopped_by(identity, waiting) {
-            return Err(question);
-        }
+        self.admit_release(identity, waiting)?;
         let pti = self.give_pti();
         self.sessions.release(identity, pti);
         Ok(pti)

@@ -1,38 +1,39 @@
 // The questions that stop a request.
 ghost use Rattle.std.specs.Prelude.{◌≡◌};
-ghost use Rattle.requests.specs.Questions.{question_number, timer_question};
+ghost use Rattle.requests.specs.Questions.{question_number, timer_question, part_stop};
 
+use keys::refusal::PartRefusal;
 use session::timers::TimerKind;
 
-// A question that was answered no.
+// A question that was answered no, with its number.
 #[derive(Clone, Copy, PartialEq, Eq, Debug)]
 pub enum Question {
     // 1: is the request type 1 to 4?
-    RequestType,
+    RequestType = 1,
     // 2: if it is an emergency one, are name and slice absent?
-    EmergencyParts,
+    EmergencyParts = 2,
     // 3: is the name lawful?
-    Name,
+    Name = 3,
     // 4: is the slice lawful?
-    Slice,
+    Slice = 4,
     // 5: is the identity 1 to 15?
-    Identity,
+    Identity = 5,
     // 6: is the session INACTIVE?
-    Inactive,
+    Inactive = 6,
     // 7: is no bar on its T3396 key?
-    T3396,
+    T3396 = 7,
     // 8: on its T3584 key?
-    T3584,
+    T3584 = 8,
     // 9: on its T3585 key?
-    T3585,
+    T3585 = 9,
     // 10: with its keys, are at most 32 claimed of each kind?
-    Claimed,
+    Claimed = 10,
     // 11: were fewer than 1,000,000,000 let out since switch-on?
-    LetOut,
+    LetOut = 11,
     // 12: do fewer than eight messages wait?
-    Waiting,
+    Waiting = 12,
     // 13: is the session ACTIVE?
-    Active,
+    Active = 13,
 }
 
 impl Question {
@@ -40,31 +41,31 @@ impl Question {
     pub fn number(self) -> u8
         ensures { result ≡ question_number self }
     {
-        match self {
-            Question::RequestType => 1,
-            Question::EmergencyParts => 2,
-            Question::Name => 3,
-            Question::Slice => 4,
-            Question::Identity => 5,
-            Question::Inactive => 6,
-            Question::T3396 => 7,
-            Question::T3584 => 8,
-            Question::T3585 => 9,
-            Question::Claimed => 10,
-            Question::LetOut => 11,
-            Question::Waiting => 12,
-            Question::Active => 13,
-        }
+        self as u8
     }
+}
+
+impl From<TimerKind> for Question {
+    ghost from_gives = { λ x y. y ≡ timer_question x };
 
     // The question of a timer.
-    pub(crate) fn of_timer(kind: TimerKind) -> Question
-        ensures { result ≡ timer_question kind }
-    {
+    fn from(kind: TimerKind) -> Question {
         match kind {
             TimerKind::T3396 => Question::T3396,
             TimerKind::T3584 => Question::T3584,
             TimerKind::T3585 => Question::T3585,
+        }
+    }
+}
+
+impl From<PartRefusal> for Question {
+    ghost from_gives = { λ x y. y ≡ part_stop x };
+
+    // The question of a part that is not lawful.
+    fn from(refusal: PartRefusal) -> Question {
+        match refusal {
+            PartRefusal::Name => Question::Name,
+            PartRefusal::Slice => Question::Slice,
         }
     }
 }

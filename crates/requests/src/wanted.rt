@@ -1,10 +1,13 @@
 // What an establishment request asks for.
 ghost use Rattle.std.specs.Prelude.{◌≡◌};
 ghost use Rattle.std.specs.Option.{option_map};
-ghost use Rattle.requests.specs.Wanted.{wanted_view, wanted_of, told_wanted};
+ghost use Rattle.keys.specs.KeyParts.{parts_view};
+ghost use Rattle.requests.specs.Wanted.{wanted_view, wanted_of, told_wanted, keys_in};
 
 use crate::question::Question;
 use keys::name::Name;
+use keys::network::Network;
+use keys::parts::KeyParts;
 use keys::slice::Slice;
 use ul_nas::message::RequestType;
 
@@ -31,16 +34,23 @@ impl Wanted {
         if request_type.is_emergency() && (slice.is_some() || name.is_some()) {
             return Err(Question::EmergencyParts);
         }
-        let Ok(name) = Name::new(name) else {
-            return Err(Question::Name);
-        };
-        let Ok(slice) = Slice::new(slice) else {
-            return Err(Question::Slice);
-        };
+        let name = Name::new(name)?;
+        let slice = Slice::new(slice)?;
         Ok(Wanted {
             request_type,
             slice,
             name,
         })
+    }
+
+    // The parts of the keys that the request has in a network.
+    pub(crate) fn parts(&self, network: Network) -> KeyParts
+        ensures { parts_view result ≡ keys_in network.octets (wanted_view self.now) }
+    {
+        KeyParts {
+            network,
+            slice: self.slice,
+            name: self.name,
+        }
     }
 }
