@@ -10,9 +10,9 @@ use crate::off::take_oldest;
 use keeper::Keeper;
 use keys::name::Name;
 use keys::network::Network;
+use keys::parts::KeyParts;
 use keys::slice::Slice;
 use requests::state::State;
-use timers::parts::KeyParts;
 use timers::timers::methods::TimersOn;
 use uplink::queue::Uplink;
 

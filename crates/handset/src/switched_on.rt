@@ -9,9 +9,9 @@ use crate::off::take_oldest;
 use keeper::Keeper;
 use keys::name::Name;
 use keys::network::Network;
+use keys::parts::KeyParts;
 use keys::slice::Slice;
 use requests::sound::SoundState;
-use timers::parts::KeyParts;
 use timers::timers::methods::TimersOn;
 use uplink::queue::Uplink;
 

@@ -14,7 +14,6 @@ use rules::answer::{TakeInRefusal, TakenIn};
 use session::outcome::{Ended, Outcome};
 use session::session::Session;
 use session::timers::{TimerRule, timer_rule};
-use timers::parts::KeyParts;
 use uplink::queue::CAPACITY;
 
 // The answer to a message that is passed over.
@@ -84,10 +83,7 @@ pub fn take_in(
         return Err(TakeInRefusal::Waiting);
     }
     state.plain.sessions.take_in(message.identity, message);
-    state
-        .plain
-        .timers
-        .apply(answer.rule, &KeyParts::of_session(&session));
+    state.plain.timers.apply(answer.rule, &session.parts);
     state.plain.tally = tally_with(answer.ended, state.plain.tally);
     Ok(answer)
 }

@@ -34,7 +34,7 @@ view_sound t s =
     let p = and_parts _ _ s in
     let q = and_parts _ _ p.1 in
     record {
-      t3396 = record { full = names_full t; single = t.apart_t3396; lawful = bars_lawful 1 name_key_octets (λ k. key_lawful (T3396 k)) t.t3396.places p.0 };
-      t3584 = record { full = slice_names_full t; single = t.apart_t3584; lawful = bars_lawful 2 slice_name_key_octets (λ k. key_lawful (T3584 k)) t.t3584.places q.0 };
-      t3585 = record { full = slices_full t; single = t.apart_t3585; lawful = bars_lawful 3 slice_key_octets (λ k. key_lawful (T3585 k)) t.t3585.places q.1 };
+      t3396 = record { full = names_full t; single = t.t3396.apart; lawful = bars_lawful 1 name_key_octets (λ k. key_lawful (T3396 k)) t.t3396.places p.0 };
+      t3584 = record { full = slice_names_full t; single = t.t3584.apart; lawful = bars_lawful 2 slice_name_key_octets (λ k. key_lawful (T3584 k)) t.t3584.places q.0 };
+      t3585 = record { full = slices_full t; single = t.t3585.apart; lawful = bars_lawful 3 slice_key_octets (λ k. key_lawful (T3585 k)) t.t3585.places q.1 };
     }

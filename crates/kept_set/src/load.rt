@@ -10,7 +10,6 @@ use crate::TRAILER;
 use bar_record::read::read;
 use keeper::{Keeper, RECORD_LENGTH};
 use keys::card::Card;
-use keys::octets::same_octets;
 use timers::timers::Timers;
 
 // The record with a number.
@@ -28,14 +27,8 @@ fn with_record(timers: Timers, record: &[u8]) -> Option<Timers>
     ensures { option_map timers_view result ≡ with_record (told «record».now) (timers_view timers) }
 {
     let mut timers = timers;
-    match read(record) {
-        Some(bar) => if timers.restore(&bar) {
-            Some(timers)
-        } else {
-            None
-        },
-        None => None,
-    }
+    let bar = read(record)?;
+    timers.restore(&bar).then_some(timers)
 }
 
 // The bars of the last records before the trailer.
@@ -56,7 +49,7 @@ pub fn load<K: Keeper>(keeper: &K, card: &Card) -> Option<Timers>
 {
     let trailer = record_at(keeper, TRAILER);
     let n = trailer[8];
-    if same_octets(card.octets(), &trailer[..8]) && n <= TRAILER {
+    if card.octets() == &trailer[..8] && n <= TRAILER {
         load_last(keeper, n)
     } else {
         None
@@ -67,20 +60,7 @@ pub fn load<K: Keeper>(keeper: &K, card: &Card) -> Option<Timers>
 fn loaded_or_new<K: Keeper>(keeper: &K, card: &Card) -> Timers
     ensures { timers_view result ≡ or_none (kept_timers card.now.octets (K.Keeper.records keeper.now)) }
 {
-    match load(keeper, card) {
-        Some(timers) => timers,
-        None => Timers::new(),
-    }
-}
-
-// Seconds that are known; unknown ones count as none.
-fn known(seconds: Option<u32>) -> u32
-    ensures { result ≡ known_seconds seconds }
-{
-    match seconds {
-        Some(seconds) => seconds,
-        None => 0,
-    }
+    load(keeper, card).unwrap_or_else(|| Timers::new())
 }
 
 // The timers that a switched-on handset restores: those of the kept set less the time off. Unknown time takes off nothing.
@@ -88,6 +68,6 @@ pub fn restore<K: Keeper>(keeper: &K, card: &Card, off: Option<u32>) -> Timers
     ensures { timers_view result ≡ restored card.now.octets off (K.Keeper.records keeper.now) }
 {
     let mut timers = loaded_or_new(keeper, card);
-    timers.count(known(off));
+    timers.count(off.unwrap_or(0));
     timers
 }

@@ -8,7 +8,6 @@ use Rattle.session.specs.Transitions.{taken_in, outcome_of}
 use Rattle.sessions.specs.Laws.{all_differ}
 use Rattle.sessions.specs.Ptis.{waiting_ptis, pending}
 use Rattle.sessions.specs.Table.{session_of, changed}
-use Rattle.keys.specs.KeyParts.{parts_view}
 use Rattle.session.specs.Session.{session_parts}
 use Rattle.timers.specs.Timers.{timers_view, ruled}
 use Rattle.requests.proofs.Thinning.{differ_thinner, lawful_thinner}
@@ -26,8 +25,7 @@ invariant_of-state c =
     let answer = c.answer_on-answer.ensures in
     let sessions = c.take_in.ensures.after in
     let timers : timers_view c.apply.new.self ≡ ruled (timer_rule v.request_type m (outcome_of v m).took_effect) (session_parts v) s.timers =
-    c.apply.ensures ∙ ap (λ a. ruled a.rule (parts_view c.of_session.result) s.timers) answer
-    ∙ ap (λ k. ruled (timer_rule v.request_type m (outcome_of v m).took_effect) k s.timers) c.of_session.ensures in
+    c.apply.ensures ∙ ap (λ a. ruled a.rule (session_parts v) s.timers) answer in
     let tally : c.tally_with-state.result ≡ tally_with (outcome_of v m).ended s.tally = c.tally_with-state.ensures ∙ ap (λ a. tally_with a.ended s.tally) answer in
     let out : c.tally_with-state.result.let_out ≡ s.tally.let_out = ap (λ x. x.let_out) tally ∙ out_with (outcome_of v m).ended s.tally in
     let few = state.few in
@@ -36,7 +34,7 @@ invariant_of-state c =
       lawful = ap all_lawful sessions ∙ lawful_thinner i s.sessions v (λ x. taken_in x m) is (thinner v m) state.lawful;
       claims =
           ap (claims_fit (timers_view c.apply.new.self)) sessions ∙ ap (λ t. claims_fit t (changed i (λ x. taken_in x m) s.sessions)) timers
-          ∙ claims_taken i s.sessions v m s.timers is (record { t3396 = state.plain.timers.apart_t3396; t3584 = state.plain.timers.apart_t3584; t3585 = state.plain.timers.apart_t3585 }) state.claims;
+          ∙ claims_taken i s.sessions v m s.timers is (record { t3396 = state.plain.timers.t3396.apart; t3584 = state.plain.timers.t3584.apart; t3585 = state.plain.timers.t3585.apart }) state.claims;
       few = omega arith;
       sums =
           ap (λ x. x.let_out) tally ∙ sums_taken i s.sessions v m s.tally is state.sums

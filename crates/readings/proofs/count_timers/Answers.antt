@@ -13,7 +13,7 @@ invariant_of-state c =
       lawful = state.lawful;
       claims =
           ap (λ t. claims_fit t s.sessions) c.count.ensures
-          ∙ claims_counted c.args.seconds s.timers s.sessions state.plain.timers.apart_t3396 state.plain.timers.apart_t3584 state.plain.timers.apart_t3585 state.claims;
+          ∙ claims_counted c.args.seconds s.timers s.sessions state.plain.timers.t3396.apart state.plain.timers.t3584.apart state.plain.timers.t3585.apart state.claims;
       few = state.few;
       sums = state.sums;
     }
