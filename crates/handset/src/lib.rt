@@ -3,7 +3,6 @@
 
 pub mod network;
 pub mod off;
-pub mod on;
 pub mod power;
 pub mod request;
 pub mod switched_on;

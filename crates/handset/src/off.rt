@@ -1,14 +1,11 @@
 // The switched-off handset. It has no request calls.
 ghost use Rattle.std.specs.Prelude.{◌≡◌, length};
-ghost use Rattle.handset.specs.Calls.{commissioned};
-ghost use Rattle.handset.specs.Taking.{taken_length};
+ghost use Rattle.rules.specs.Power.{commissioned, taken_length};
 ghost use Rattle.uplink.specs.Waiting.{after_take, place_after};
 
-use keeper::{Keeper, RECORD_LENGTH, RECORDS};
+use keeper::{Keeper, RECORD_LENGTH};
+pub use kept_set::TRAILER;
 use uplink::queue::Uplink;
-
-// The number of the trailer, the last record: it points back to the records of the kept bars.
-pub const TRAILER: u8 = RECORDS as u8 - 1;
 
 // A switched-off handset holds nothing of its own beside uplink and keeper.
 pub struct SwitchedOff<U: Uplink, K: Keeper> {
@@ -32,10 +29,7 @@ pub fn take_oldest<U: Uplink>(uplink: &mut U, place: &mut [u8]) -> usize
     ensures queue { U.Uplink.waiting uplink.new ≡ after_take (U.Uplink.waiting uplink.old) place.old }
     ensures place { place.new ≡ place_after (U.Uplink.waiting uplink.old) place.old }
 {
-    match uplink.take(place) {
-        Ok(n) => n,
-        Err(_) => 0,
-    }
+    uplink.take(place).unwrap_or(0)
 }
 
 impl<U: Uplink, K: Keeper> SwitchedOff<U, K> {

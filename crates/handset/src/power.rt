@@ -2,7 +2,7 @@
 ghost use Rattle.std.specs.Prelude.{◌≡◌, ◌≤◌};
 ghost use Rattle.kept_set.specs.Loading.{standing_in};
 ghost use Rattle.requests.specs.SoundViews.{sound_view};
-ghost use Rattle.rules.specs.Power.{no_tally, switched_on, restored_count, records_after_off, closed_tally};
+ghost use Rattle.rules.specs.Power.{switched_on, restored_count, records_after_off, closed_tally};
 ghost use Rattle.timers.specs.Timers.{timers_view};
 
 use crate::off::SwitchedOff;
@@ -26,31 +26,12 @@ fn standing(timers: &Timers) -> u8
     timers.standing() as u8
 }
 
-// No request was let out yet.
-fn no_tally() -> Tally
-    ensures { result ≡ no_tally }
-{
-    Tally {
-        let_out: 0,
-        accepted: 0,
-        rejected: 0,
-        returned: 0,
-        overtaken: 0,
-        given_up: 0,
-    }
-}
-
 // The tally of a handset that is switched off: the requests still pending are cut off.
 fn closed_tally(state: &SoundState) -> ClosedTally
     ensures { result ≡ closed_tally (sound_view state.now) }
 {
     ClosedTally {
-        let_out: state.plain.tally.let_out,
-        accepted: state.plain.tally.accepted,
-        rejected: state.plain.tally.rejected,
-        returned: state.plain.tally.returned,
-        overtaken: state.plain.tally.overtaken,
-        given_up: state.plain.tally.given_up,
+        since_on: state.plain.tally,
         cut_off: state.plain.sessions.pending() as u32,
     }
 }
@@ -81,7 +62,7 @@ impl<U: Uplink, K: Keeper> SwitchedOff<U, K> {
                 network,
                 reading,
                 last_pti: 0,
-                tally: no_tally(),
+                tally: Tally::default(),
             },
         };
         (

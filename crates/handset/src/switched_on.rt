@@ -2,14 +2,14 @@
 ghost use Rattle.std.specs.Prelude.{◌≡◌, length};
 ghost use Rattle.keys.specs.Parts.{name_octets, slice_octets};
 ghost use Rattle.requests.specs.SoundViews.{sound_view};
-ghost use Rattle.rules.specs.Power.{network_changed, looked_up, taken_length};
+ghost use Rattle.requests.specs.State.{network_changed, looked_up};
+ghost use Rattle.rules.specs.Power.{taken_length};
 ghost use Rattle.uplink.specs.Waiting.{after_take, place_after};
 
 use crate::off::take_oldest;
 use keeper::Keeper;
 use keys::name::Name;
 use keys::network::Network;
-use keys::parts::KeyParts;
 use keys::slice::Slice;
 use requests::sound::SoundState;
 use timers::timers::methods::TimersOn;
@@ -29,18 +29,14 @@ impl<U: Uplink, K: Keeper> SwitchedOn<U, K> {
         ensures uplink { self.new.uplink ≡ self.old.uplink }
         ensures keeper { self.new.keeper ≡ self.old.keeper }
     {
-        self.state.plain.network = network;
+        self.state.plain.change_network(network);
     }
 
     // The three back-off timers on the keys of a slice and a name in the current network. Nothing changes.
     pub fn timers(&self, slice: Slice, name: Name) -> TimersOn
         ensures { result ≡ looked_up (sound_view self.now.state) (slice_octets slice) (name_octets name) }
     {
-        self.state.plain.timers.on(&KeyParts {
-            network: self.state.plain.network,
-            slice,
-            name,
-        })
+        self.state.plain.timers_on(slice, name)
     }
 
     // The network's take from the uplink.

@@ -18,7 +18,7 @@ use Rattle.rules.specs.declared.answer.Answer.TheVariants.{LetOut, TakenIn, Read
 use Rattle.rules.specs.declared.answer.Expired.{Expired}
 use Rattle.rules.specs.declared.answer.TakenIn.{TakenIn as Taking}
 use Rattle.rules.specs.Calls.{Said, switch_on, take_in, time_reading}
-use Rattle.rules.specs.Power.{no_tally}
+use Rattle.requests.specs.State.{no_tally}
 use Rattle.rules.specs.Reading as reading
 use Rattle.rules.specs.TakingIn.{tally_with}
 use Rattle.law.specs.Moments.{Moment}

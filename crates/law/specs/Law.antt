@@ -71,12 +71,12 @@ Balanced h = let_out_of h ≡ accepted h + rejected h + returned h + overtaken h
 
 -- and switch off tells these numbers; the requests still pending are cut off
 pub record Told (t : ClosedTally) (h : List Moment) : Type 0 where
-  pub let_out_is : t.let_out ≡ let_out_of h
-  pub accepted_is : t.accepted ≡ accepted h
-  pub rejected_is : t.rejected ≡ rejected h
-  pub returned_is : t.returned ≡ returned h
-  pub overtaken_is : t.overtaken ≡ overtaken h
-  pub given_up_is : t.given_up ≡ given_up_of h
+  pub let_out_is : t.since_on.let_out ≡ let_out_of h
+  pub accepted_is : t.since_on.accepted ≡ accepted h
+  pub rejected_is : t.since_on.rejected ≡ rejected h
+  pub returned_is : t.since_on.returned ≡ returned h
+  pub overtaken_is : t.since_on.overtaken ≡ overtaken h
+  pub given_up_is : t.since_on.given_up ≡ given_up_of h
   pub cut_off_is : t.cut_off ≡ waiting h
 
 -- Ends: no request is pending once five readings at least 16 seconds above the one before have come since it left

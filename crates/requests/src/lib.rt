@@ -4,6 +4,7 @@
 pub mod decide;
 pub mod lawful;
 pub mod let_out;
+pub mod network;
 pub mod question;
 pub mod sound;
 pub mod state;

@@ -5,7 +5,7 @@ use sessions::table::Sessions;
 use timers::timers::Timers;
 
 // How many requests were let out since switch-on, and how they ended.
-#[derive(Clone, Copy, PartialEq, Eq, Debug)]
+#[derive(Clone, Copy, PartialEq, Eq, Default, Debug)]
 pub struct Tally {
     pub let_out: u32,
     pub accepted: u32,

@@ -11,7 +11,8 @@ use Rattle.rules.specs.declared.answer.Answer.TheVariants.{SwitchedOn, SwitchedO
 use Rattle.rules.specs.declared.answer.TakenIn.{TakenIn as Taking}
 use Rattle.rules.specs.declared.answer.TakeInRefusal.{TakeInRefusal}
 use Rattle.rules.specs.declared.answer.TakenMessage.{TakenMessage}
-use Rattle.rules.specs.Power.{switched_on, restored_count, records_after_off, closed_tally, network_changed, looked_up, taken_length}
+use Rattle.requests.specs.State.{network_changed, looked_up}
+use Rattle.rules.specs.Power.{switched_on, restored_count, records_after_off, closed_tally, taken_length}
 use Rattle.rules.specs.Requests.{establish_answer, after_establish, waiting_after_establish, modify_answer, after_modify, waiting_after_modify, release_answer, after_release, waiting_after_release}
 use Rattle.rules.specs.TakingIn.{take_in_answer, after_take_in, waiting_after_take_in}
 use Rattle.rules.specs.Reading.{reading_answer, after_reading, waiting_after_reading}

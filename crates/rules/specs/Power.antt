@@ -5,19 +5,13 @@ use Rattle.kept_set.specs.Storing.{stored}
 use Rattle.kept_set.specs.Trailer.{trailer_number}
 use Rattle.session.specs.Session.{unused}
 use Rattle.sessions.specs.Ptis.{pending}
-use Rattle.timers.specs.declared.timers.methods.TimersOn.{TimersOn}
-use Rattle.timers.specs.Timers.{timers_on}
 use Rattle.uplink.specs.Waiting.{oldest}
-use Rattle.requests.specs.declared.state.Tally.{Tally}
-use Rattle.requests.specs.State.{StateView}
+use Rattle.requests.specs.State.{StateView, no_tally}
 use Rattle.rules.specs.declared.answer.ClosedTally.{ClosedTally}
 
 -- the trailer is zeros; the other records stay
 abbrev pub commissioned : List (List ℕ) → List (List ℕ)
 commissioned records = slice_set records trailer_number (replicate 128 0)
-
-abbrev pub no_tally : Tally
-no_tally = record { let_out = 0; accepted = 0; rejected = 0; returned = 0; overtaken = 0; given_up = 0 }
 
 -- every session is INACTIVE, no PTI was given, the tally is zero; the timers are the restored ones
 abbrev pub switched_on : List ℕ → List ℕ → ℕ → Option ℕ → List (List ℕ) → StateView
@@ -41,31 +35,7 @@ records_after_off s records = stored s.card s.timers records
 
 -- the tally since switch-on; the requests still pending are cut off
 abbrev pub closed_tally : StateView → ClosedTally
-closed_tally s = record {
-  let_out = s.tally.let_out;
-  accepted = s.tally.accepted;
-  rejected = s.tally.rejected;
-  returned = s.tally.returned;
-  overtaken = s.tally.overtaken;
-  given_up = s.tally.given_up;
-  cut_off = pending s.sessions;
-}
-
--- another network, and all else as it was
-abbrev pub network_changed : List ℕ → StateView → StateView
-network_changed network s = record {
-  sessions = s.sessions;
-  timers = s.timers;
-  card = s.card;
-  network = network;
-  reading = s.reading;
-  last_pti = s.last_pti;
-  tally = s.tally;
-}
-
--- the timers on the keys of a slice and a name in the current network
-abbrev pub looked_up : StateView → List ℕ → List ℕ → TimersOn
-looked_up s slice name = timers_on s.timers (record { network = s.network; slice = slice; name = name })
+closed_tally s = record { since_on = s.tally; cut_off = pending s.sessions }
 
 -- the length of the oldest message, or 0 where none waits or the place is too short
 abbrev pub taken_length : List (List ℕ) → ℕ → ℕ

@@ -5,6 +5,7 @@ ghost use Rattle.rules.specs.declared.answer.TakeInRefusal.TheVariants.{Message}
 
 use dl_nas::message::MessageFault;
 use requests::question::Question;
+use requests::state::Tally;
 use session::outcome::{Ended, Reply};
 use session::timers::TimerRule;
 use timers::timers::methods::TimersOn;
@@ -53,15 +54,10 @@ pub struct Expired {
     pub given_up: u8,
 }
 
-// How many requests were let out since switch-on, and how they ended; those still pending at switch off are cut off.
+// The tally since switch-on; the requests still pending at switch off are cut off.
 #[derive(Clone, Copy, PartialEq, Eq, Debug)]
 pub struct ClosedTally {
-    pub let_out: u32,
-    pub accepted: u32,
-    pub rejected: u32,
-    pub returned: u32,
-    pub overtaken: u32,
-    pub given_up: u32,
+    pub since_on: Tally,
     pub cut_off: u32,
 }
 

@@ -97,9 +97,9 @@ pub record WorkedCases : Type 0 where
   pub long_name : answers (on ∷ establish 5 1 None (Some (replicate 101 0x61)) ∷ establish 5 1 None (Some (replicate 100 0x61)) ∷ []) ≡ SwitchedOn 0 ∷ Stopped question.Name ∷ LetOut 1 ∷ []
   -- 6: 300 seconds left, the same card, 299 seconds off: 1 is left; 300 off: none
   pub off_299 : answers (released ++ switch_off ∷ switch_on card network 0 (Some 299) ∷ look (Some slice) (Some ims) ∷ [])
-      ≡ released_answers ++ SwitchedOff (record { let_out = 1; accepted = 1; rejected = 0; returned = 0; overtaken = 0; given_up = 0; cut_off = 0 }) ∷ SwitchedOn 1 ∷ t3396 (Running 1) ∷ []
+      ≡ released_answers ++ SwitchedOff (record { since_on = record { let_out = 1; accepted = 1; rejected = 0; returned = 0; overtaken = 0; given_up = 0 }; cut_off = 0 }) ∷ SwitchedOn 1 ∷ t3396 (Running 1) ∷ []
   pub off_300 : answers (released ++ switch_off ∷ switch_on card network 0 (Some 300) ∷ look (Some slice) (Some ims) ∷ [])
-      ≡ released_answers ++ SwitchedOff (record { let_out = 1; accepted = 1; rejected = 0; returned = 0; overtaken = 0; given_up = 0; cut_off = 0 }) ∷ SwitchedOn 0 ∷ t3396 Stopped ∷ []
+      ≡ released_answers ++ SwitchedOff (record { since_on = record { let_out = 1; accepted = 1; rejected = 0; returned = 0; overtaken = 0; given_up = 0 }; cut_off = 0 }) ∷ SwitchedOn 0 ∷ t3396 Stopped ∷ []
   -- 7: reading 50 after 90 counts 0, then 60 counts 10
   pub backwards : answers (released ++ time_reading 90 ∷ look (Some slice) (Some ims) ∷ time_reading 50 ∷ look (Some slice) (Some ims) ∷ time_reading 60 ∷ look (Some slice) (Some ims) ∷ [])
       ≡ released_answers ++ read 0 0 0 ∷ t3396 (Running 210) ∷ read 0 0 0 ∷ t3396 (Running 210) ∷ read 0 0 0 ∷ t3396 (Running 200) ∷ []
