@@ -1,24 +1,21 @@
-use Rattle.std.proofs.Common.{◌≡◌, ◌+◌, ◌-◌, ◌++◌, take, drop, sym, ap, ◌∙◌, subst, arith}
-use Rattle.uplink.specs.Makes.{size}
-use Rattle.uplink.proofs.LineSteps.{take_step, take_first, Ghosts}
+use Rattle.std.proofs.Common.{◌≡◌, ◌+◌, drop, length, arith, rules}
+use Rattle.std.proofs.lemmas.Grind.{common_steps}
+use Rattle.uplink.specs.Makes.{parsed}
+use Rattle.uplink.specs.Waiting.{oldest}
+use Rattle.uplink.proofs.LineSteps.{taken}
 use Rattle.uplink.proofs.line.Line.pull.Goals as goal
 
 pub invariant_of-self : goal.invariant_of-self
 invariant_of-self c =
     let s = c.args.self.now in
-    let n = c.first_length-n.ensures in
-    let turned = c.rotate_left.ensures.after ∙ ap (λ k. drop (2 + k) s.line ++ take (2 + k) s.line) n in
-    let line = c.rotate_left.new.self in
-    let g = subst (λ k. Ghosts line (s.used - (2 + k)) (s.count - 1)) (sym n) (take_step s (omega arith) line c.requires.some turned (omega arith)).1 in
-    record { few = omega arith; tight = g.0; front = g.1; whole = g.2; short = g.3 }
+    let line = c.drop-drain.new.self.0.items in
+    let e : line ≡ drop (2 + length (oldest (parsed s.line.items s.count))) s.line.items = search rules in
+    let l = taken s.line.items s.count s.whole s.short c.requires.some line e in
+    record { few = omega arith; whole = l.1; short = l.2 }
 
-pub returns : goal.returns
-returns c =
+pub returns-clause-queue : goal.returns-clause-queue
+returns-clause-queue c =
     let s = c.args.self.now in
-    let n = c.first_length-n.ensures in
-    let turned = c.rotate_left.ensures.after ∙ ap (λ k. drop (2 + k) s.line ++ take (2 + k) s.line) n in
-    let f = (take_first s (omega arith) c.requires.some).1 in
-    let z : c.first_length-n.result - 0 ≡ size s.line = omega arith in
-    let y : 2 + c.first_length-n.result - 2 ≡ size s.line = omega arith in
-    let a = c.copy_from_slice.ensures.after in
-    record { queue = (take_step s (omega arith) c.rotate_left.new.self c.requires.some turned (omega arith)).0; place = cc }
+    let line = c.drop-drain.new.self.0.items in
+    let e : line ≡ drop (2 + length (oldest (parsed s.line.items s.count))) s.line.items = grind (arith, common_steps) in
+    (taken s.line.items s.count s.whole s.short c.requires.some line e).0

@@ -1,11 +1,18 @@
-use Rattle.std.proofs.Common.{arith}
-use Rattle.uplink.proofs.LineSteps.{send_step}
+use Rattle.std.proofs.Common.{◌≡◌, ◌++◌, arith, rules}
+use Rattle.uplink.proofs.LineSteps.{sent}
 use Rattle.uplink.proofs.line.Line.push.Goals as goal
 
 pub invariant_of-self : goal.invariant_of-self
 invariant_of-self c =
-    let g = (send_step c.args.self.now (omega arith) _ c.copy_from_slice.new.self c.args.message.now (omega arith) (omega arith) (omega arith) c.copy_from_slice.ensures.after).1 in
-    record { few = omega arith; tight = g.0; front = g.1; whole = g.2; short = g.3 }
+    let s = c.args.self.now in
+    let line = c.try_extend_from_slice-2.new.self.items in
+    let e : line ≡ (s.line.items ++ c.to_be_bytes-length.result) ++ c.args.message.now = search rules in
+    let l = sent s.line.items s.count s.whole s.short line _ c.args.message.now c.requires.short c.to_be_bytes-length.ensures e in
+    record { few = omega arith; whole = l.1; short = l.2 }
 
 pub returns : goal.returns
-returns c = (send_step c.args.self.now (omega arith) _ c.copy_from_slice.new.self c.args.message.now (omega arith) (omega arith) (omega arith) c.copy_from_slice.ensures.after).0
+returns c =
+    let s = c.args.self.now in
+    let line = c.try_extend_from_slice-2.new.self.items in
+    let e : line ≡ (s.line.items ++ c.to_be_bytes-length.result) ++ c.args.message.now = search rules in
+    (sent s.line.items s.count s.whole s.short line _ c.args.message.now c.requires.short c.to_be_bytes-length.ensures e).0
