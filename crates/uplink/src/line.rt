@@ -46,7 +46,7 @@ impl Line {
     }
 
     // Puts a message behind the last one.
-    #[tactic(auto, using(crate::proofs::LineSteps::room))]
+    #[tactic(auto, using(crate::proofs::LineSteps::room, crate::proofs::LineSteps::sent))]
     fn push(&mut self, message: &[u8])
         requires room { self.old.count < capacity }
         requires short { length message.now ≤ longest_message }
@@ -59,7 +59,7 @@ impl Line {
     }
 
     // Moves the oldest message to the front of the place, and the line up.
-    #[tactic(auto, using(crate::proofs::LineSteps::first_fits))]
+    #[tactic(auto, using(crate::proofs::LineSteps::first_fits, crate::proofs::LineSteps::taken))]
     fn pull(&mut self, place: &mut [u8])
         requires some { 0 < self.old.count }
         requires room { length (oldest (parsed self.old.line.items self.old.count)) ≤ length place.old }

@@ -12,10 +12,3 @@ invariant_of-self c =
     let e : line ≡ drop (2 + length (oldest (parsed s.line.items s.count))) s.line.items = search rules in
     let l = taken s.line.items s.count s.whole s.short c.requires.some line e in
     record { few = omega arith; whole = l.1; short = l.2 }
-
-pub returns-clause-queue : goal.returns-clause-queue
-returns-clause-queue c =
-    let s = c.args.self.now in
-    let line = c.drop-drain.new.self.0.items in
-    let e : line ≡ drop (2 + length (oldest (parsed s.line.items s.count))) s.line.items = grind (arith, common_steps) in
-    (taken s.line.items s.count s.whole s.short c.requires.some line e).0

@@ -9,10 +9,3 @@ invariant_of-self c =
     let e : line ≡ (s.line.items ++ c.to_be_bytes-length.result) ++ c.args.message.now = search rules in
     let l = sent s.line.items s.count s.whole s.short line _ c.args.message.now c.requires.short c.to_be_bytes-length.ensures e in
     record { few = omega arith; whole = l.1; short = l.2 }
-
-pub returns : goal.returns
-returns c =
-    let s = c.args.self.now in
-    let line = c.try_extend_from_slice-2.new.self.items in
-    let e : line ≡ (s.line.items ++ c.to_be_bytes-length.result) ++ c.args.message.now = search rules in
-    (sent s.line.items s.count s.whole s.short line _ c.args.message.now c.requires.short c.to_be_bytes-length.ensures e).0
