@@ -85,3 +85,6 @@ module _ (line : List ℕ) (count : ℕ) (whole : line ≡ flat_map framed (pars
       let w : line' ≡ flat_map framed (drop 1 ms) =
       e ∙ sym (drop-drop (length (oldest ms)) 2 line) ∙ ap (λ xs. drop (length (oldest ms)) (drop 2 xs)) whole ∙ f.2 in
       lined line' (count - 1) (drop 1 ms) w (omega (arith, length-drop 1 ms, length_parsed line count)) (λ k. rw (get_or-drop 1 ms k []) (short (1 + k)))
+
+-- what the calls on a line rest on
+pub ruleset line_steps = (length_parsed, room, sent, first_fits, taken)

@@ -44,36 +44,9 @@ impl Line {
             .first_chunk()
             .map_or(0, |length| usize::from(u16::from_be_bytes(*length)))
     }
-
-    // Puts a message behind the last one.
-    #[tactic(auto, using(crate::proofs::LineSteps::room, crate::proofs::LineSteps::sent))]
-    fn push(&mut self, message: &[u8])
-        requires room { self.old.count < capacity }
-        requires short { length message.now ≤ longest_message }
-        ensures { parsed self.new.line.items self.new.count ≡ parsed self.old.line.items self.old.count ++ message.now ∷ [] }
-    {
-        let length = (message.len() as u16).to_be_bytes();
-        self.line.try_extend_from_slice(&length).unwrap();
-        self.line.try_extend_from_slice(message).unwrap();
-        self.count += 1;
-    }
-
-    // Moves the oldest message to the front of the place, and the line up.
-    #[tactic(auto, using(crate::proofs::LineSteps::first_fits, crate::proofs::LineSteps::taken))]
-    fn pull(&mut self, place: &mut [u8])
-        requires some { 0 < self.old.count }
-        requires room { length (oldest (parsed self.old.line.items self.old.count)) ≤ length place.old }
-        ensures queue { parsed self.new.line.items self.new.count ≡ drop 1 (parsed self.old.line.items self.old.count) }
-        ensures place { place.new ≡ oldest (parsed self.old.line.items self.old.count) ++ drop (length (oldest (parsed self.old.line.items self.old.count))) place.old }
-    {
-        let n = self.first_length();
-        place[..n].copy_from_slice(&self.line[2..2 + n]);
-        self.line.drain(..2 + n);
-        self.count -= 1;
-    }
 }
 
-#[tactic(auto, using(crate::specs::Lined::length_parsed))]
+#[tactic(auto, using(crate::proofs::LineSteps::line_steps))]
 impl Uplink for Line {
     ghost waiting = { λ s. parsed s.line.items s.count };
 
@@ -87,13 +60,18 @@ impl Uplink for Line {
 
     fn send(&mut self, message: &[u8]) -> Result<(), SendRefusal> {
         may_send(self.count, message.len())?;
-        self.push(message);
+        let length = (message.len() as u16).to_be_bytes();
+        self.line.try_extend_from_slice(&length).unwrap();
+        self.line.try_extend_from_slice(message).unwrap();
+        self.count += 1;
         Ok(())
     }
 
     fn take(&mut self, place: &mut [u8]) -> Result<usize, TakeRefusal> {
         let n = may_take(self.count, self.first_length(), place.len())?;
-        self.pull(place);
+        place[..n].copy_from_slice(&self.line[2..2 + n]);
+        self.line.drain(..2 + n);
+        self.count -= 1;
         Ok(n)
     }
 }
