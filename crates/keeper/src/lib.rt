@@ -49,7 +49,7 @@ pub trait Keeper {
 pub(crate) fn admit(number: u8, length: usize) -> Result<(), KeeperRefusal>
     ensures answer { result ≡ answered number «length» }
 {
-    if number as usize >= RECORDS {
+    if usize::from(number) >= RECORDS {
         return Err(KeeperRefusal::Number);
     }
     if length != RECORD_LENGTH {

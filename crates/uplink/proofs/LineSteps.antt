@@ -1,8 +1,9 @@
 -- The messages of a line, and what a send and a take do to them.
-use Rattle.std.proofs.Common.{◌≡◌, ℕ, zero, suc, ◌+◌, ◌-◌, ◌*◌, ◌/◌, ◌%◌, ◌<◌, ◌≤◌, List, [], ◌∷◌, ◌++◌, length, get_or, take, drop, refl, sym, ap, subst, ◌∙◌, arith}
+use Rattle.std.proofs.Common.{◌≡◌, ℕ, suc, ◌+◌, ◌-◌, ◌*◌, ◌/◌, ◌%◌, ◌<◌, ◌≤◌, List, [], ◌∷◌, ◌++◌, length, get_or, take, drop, refl, sym, ap, subst, ◌∙◌, arith}
 use Rattle.std.specs.List.{flat_map}
 use Rattle.std.specs.Int.{w16, to_be_bytes}
 use Rattle.std.proofs.lemmas.List.{length-append, append_assoc, take_at, drop_at, flat_map_more, length_push, length-drop, drop-drop, get_or-drop}
+use Rattle.std.proofs.lemmas.Grind.{elements}
 use Rattle.uplink.specs.Lined.{length_parsed}
 use Rattle.uplink.specs.Makes.{framed, parsed, size}
 use Rattle.uplink.specs.Waiting.{oldest}
@@ -16,10 +17,10 @@ parsed_framed : (ms : List (List ℕ)) → parsed (flat_map framed ms) (length m
 unfolding parsed
 parsed_framed [] = refl
 parsed_framed (m ∷ ms) =
-    let s : length m ≡ 256 * (length m / 256) + length m % 256 = omega arith in
-    let t : take (256 * (length m / 256) + length m % 256) (m ++ flat_map framed ms) ≡ m = take_at m _ _ s in
-    let d : drop (256 * (length m / 256) + length m % 256) (m ++ flat_map framed ms) ≡ flat_map framed ms = drop_at m _ _ s in
-    ap (λ h. h ∷ parsed (drop (256 * (length m / 256) + length m % 256) (m ++ flat_map framed ms)) (length ms)) t ∙ ap (λ r. m ∷ parsed r (length ms)) d ∙ ap (λ r. m ∷ r) (parsed_framed ms)
+    let s : 256 * (length m / 256) + length m % 256 ≡ length m = omega arith in
+    let t : take (length m) (m ++ flat_map framed ms) ≡ m = take_at m _ _ refl in
+    let d : drop (length m) (m ++ flat_map framed ms) ≡ flat_map framed ms = drop_at m _ _ refl in
+    rw (s, t, d) (ap (λ rest. m ∷ rest) (parsed_framed ms))
 
 -- how long a line is at most
 length_joined : (ms : List (List ℕ)) → Short ms → length (flat_map framed ms) ≤ 130 * length ms
@@ -45,10 +46,7 @@ lined line count ms w e h =
 
 -- one message more is short enough
 sent_short : (ms : List (List ℕ)) (m : List ℕ) → Short ms → length m ≤ 128 → Short (ms ++ m ∷ [])
-sent_short [] m h le zero = le
-sent_short [] m h le (suc k) = h k
-sent_short (x ∷ ms) m h le zero = h 0
-sent_short (x ∷ ms) m h le (suc k) = sent_short ms m (λ j. h (suc j)) le k
+sent_short ms m h le k = let old = h k in grind (arith, elements)
 
 -- a length in two octets
 two_octets : (n : ℕ) → n ≤ 128 → to_be_bytes w16 n ≡ n / 256 ∷ n % 256 ∷ []
