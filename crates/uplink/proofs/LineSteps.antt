@@ -6,11 +6,12 @@ use Rattle.std.proofs.lemmas.List.{length-append, append_assoc, take_at, drop_at
 use Rattle.std.proofs.lemmas.Grind.{elements}
 use Rattle.uplink.specs.Lined.{length_parsed}
 use Rattle.uplink.specs.Makes.{framed, parsed, size}
+use Rattle.uplink.specs.Sizes.{longest_message, longest_framed}
 use Rattle.uplink.specs.Waiting.{oldest}
 
 -- each message is short enough for its length
 abbrev pub Short : List (List ℕ) → Type 0
-Short ms = (k : ℕ) → length (get_or ms k []) ≤ 128
+Short ms = (k : ℕ) → length (get_or ms k []) ≤ longest_message
 
 -- what is framed is read again
 parsed_framed : (ms : List (List ℕ)) → parsed (flat_map framed ms) (length ms) ≡ ms
@@ -23,14 +24,14 @@ parsed_framed (m ∷ ms) =
     rw (s, t, d) (ap (λ rest. m ∷ rest) (parsed_framed ms))
 
 -- how long a line is at most
-length_joined : (ms : List (List ℕ)) → Short ms → length (flat_map framed ms) ≤ 130 * length ms
+length_joined : (ms : List (List ℕ)) → Short ms → length (flat_map framed ms) ≤ longest_framed * length ms
 length_joined [] h = omega arith
 length_joined (m ∷ ms) h =
     let f = h 0 in
     let r = length_joined ms (λ k. h (suc k)) in
     omega (arith, length-append m (flat_map framed ms))
 
-pub room : (line : List ℕ) (count : ℕ) → line ≡ flat_map framed (parsed line count) → Short (parsed line count) → length line ≤ 130 * count
+pub room : (line : List ℕ) (count : ℕ) → line ≡ flat_map framed (parsed line count) → Short (parsed line count) → length line ≤ longest_framed * count
 room line count whole short =
     omega (arith, ap length whole, length_joined (parsed line count) short, length_parsed line count)
 
@@ -42,21 +43,21 @@ Lined line count ms = (parsed line count ≡ ms) × (line ≡ flat_map framed (p
 lined : (line : List ℕ) (count : ℕ) (ms : List (List ℕ)) → line ≡ flat_map framed ms → count ≡ length ms → Short ms → Lined line count ms
 lined line count ms w e h =
     let p : parsed line count ≡ ms = ap (parsed line) e ∙ ap (λ xs. parsed xs (length ms)) w ∙ parsed_framed ms in
-    (p, w ∙ ap (flat_map framed) (sym p), λ k. subst (λ xs. length (get_or xs k []) ≤ 128) (sym p) (h k))
+    (p, w ∙ ap (flat_map framed) (sym p), λ k. subst (λ xs. length (get_or xs k []) ≤ longest_message) (sym p) (h k))
 
 -- one message more is short enough
-sent_short : (ms : List (List ℕ)) (m : List ℕ) → Short ms → length m ≤ 128 → Short (ms ++ m ∷ [])
+sent_short : (ms : List (List ℕ)) (m : List ℕ) → Short ms → length m ≤ longest_message → Short (ms ++ m ∷ [])
 sent_short ms m h le k = let old = h k in grind (arith, elements)
 
 -- a length in two octets
-two_octets : (n : ℕ) → n ≤ 128 → to_be_bytes w16 n ≡ n / 256 ∷ n % 256 ∷ []
+two_octets : (n : ℕ) → n ≤ longest_message → to_be_bytes w16 n ≡ n / 256 ∷ n % 256 ∷ []
 two_octets n le =
     let h : n / 256 % 256 ≡ n / 256 = omega arith in
     ap (λ k. k ∷ n % 256 ∷ []) h
 
 module _ (line : List ℕ) (count : ℕ) (whole : line ≡ flat_map framed (parsed line count)) (short : Short (parsed line count)) where
   -- one message more
-  pub sent : (line' octets m : List ℕ) → length m ≤ 128 → octets ≡ to_be_bytes w16 (length m) → line' ≡ (line ++ octets) ++ m → Lined line' (count + 1) (parsed line count ++ m ∷ [])
+  pub sent : (line' octets m : List ℕ) → length m ≤ longest_message → octets ≡ to_be_bytes w16 (length m) → line' ≡ (line ++ octets) ++ m → Lined line' (count + 1) (parsed line count ++ m ∷ [])
   sent line' octets m le o e =
       let ms : List (List ℕ) = parsed line count in
       let two : octets ≡ length m / 256 ∷ length m % 256 ∷ [] = o ∙ two_octets (length m) le in
