@@ -1,6 +1,6 @@
 // Two uplinks that begin alike answer alike, whatever their makes.
-ghost use Rattle.std.specs.Prelude.{◌≡◌, true};
-ghost use Rattle.uplink.specs.Asked.{answer_to, waiting_after};
+ghost use Rattle.std.specs.Prelude.{◌≡◌, ◌↔◌, true, IsTrue};
+ghost use Rattle.uplink.specs.Asked.{answer_to, waiting_after, waiting_after_all, AnsweredAlike};
 
 use crate::queue::{LONGEST_MESSAGE, Uplink};
 use crate::refusal::{SendRefusal, TakeRefusal};
@@ -45,6 +45,9 @@ pub fn answer_alike<A: Uplink, B: Uplink>(
     calls: &[UplinkCall<'_>],
 ) -> bool
     ensures answer { A.Uplink.waiting one.old ≡ B.Uplink.waiting other.old → result ≡ true }
+    ensures calls { IsTrue result ↔ AnsweredAlike (A.Uplink.waiting one.old) (B.Uplink.waiting other.old) calls.now }
+    ensures one { A.Uplink.waiting one.new ≡ waiting_after_all (A.Uplink.waiting one.old) calls.now }
+    ensures other { B.Uplink.waiting other.new ≡ waiting_after_all (B.Uplink.waiting other.old) calls.now }
     ensures queues { A.Uplink.waiting one.old ≡ B.Uplink.waiting other.old → A.Uplink.waiting one.new ≡ B.Uplink.waiting other.new }
 {
     let mut alike = true;
