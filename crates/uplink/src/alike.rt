@@ -52,7 +52,8 @@ pub fn answer_alike<A: Uplink, B: Uplink>(
 {
     let mut alike = true;
     for call in calls {
-        alike &= answer(one, *call) == answer(other, *call);
+        let same = answer(one, *call) == answer(other, *call);
+        alike &= same;
     }
     alike
 }
