@@ -14,17 +14,10 @@ pub fn file_oldest<U: Uplink, K: Keeper>(uplink: &mut U, keeper: &mut K, number:
     ensures queue { U.Uplink.waiting uplink.new ≡ queue_after (U.Uplink.waiting uplink.old) number }
     ensures records { K.Keeper.records keeper.new ≡ records_after (U.Uplink.waiting uplink.old) (K.Keeper.records keeper.old) number }
 {
-    if usize::from(number) >= RECORDS {
-        return false;
-    }
-    let mut record = [0u8; RECORD_LENGTH];
-    match uplink.take(&mut record) {
-        Ok(_) => {
-            let _ = keeper.write(number, &record);
-            true
-        }
-        Err(_) => false,
-    }
+    let mut record = [0; RECORD_LENGTH];
+    usize::from(number) < RECORDS
+        && uplink.take(&mut record).is_ok()
+        && keeper.write(number, &record).is_ok()
 }
 
 #[cfg(test)]
@@ -76,8 +69,9 @@ mod tests {
 
     // Whether a place has a message at its front, and the octet behind it as it was.
     fn begins_with(place: &[u8], message: &[u8]) -> bool {
-        let n = message.len();
-        n < place.len() && &place[0..n] == message && place[n] == 0xAA
+        place
+            .strip_prefix(message)
+            .is_some_and(|rest| rest.first() == Some(&0xAA))
     }
 
     // Takes the oldest message, which is expected to be this one, after a place that is one octet too short.
@@ -85,12 +79,11 @@ mod tests {
         let mut short = [0xAAu8; 127];
         if message.len() >= 1 && message.len() <= 128 {
             let refused = uplink.take(&mut short[0..message.len() - 1]);
-            assert!(rt; matches!(refused, Err(TakeRefusal::Short)), "{make}");
+            assert_eq!(rt; refused, Err(TakeRefusal::Short), "{make}");
         }
         assert!(rt; short == [0xAA; 127], "{make}");
         let mut place = [0xAAu8; 129];
-        let taken = uplink.take(&mut place);
-        assert!(rt; matches!(taken, Ok(n) if n == message.len()), "{make}");
+        assert_eq!(rt; uplink.take(&mut place), Ok(message.len()), "{make}");
         assert!(rt; begins_with(&place, message), "{make}");
     }
 
@@ -102,26 +95,16 @@ mod tests {
     // Fills an uplink, and takes all out again in their order.
     fn fills_and_empties<U: Uplink>(rt: &impl Abort, uplink: &mut U, make: &str) {
         for i in 1..9 {
-            let sent = uplink.send(&message(i)[0..16 * i]);
-            assert!(rt; matches!(sent, Ok(())), "{make}");
+            assert_eq!(rt; uplink.send(&message(i)[0..16 * i]), Ok(()), "{make}");
         }
-        assert!(rt;
-            matches!(uplink.send(&[9]), Err(SendRefusal::Full)),
-            "{make}"
-        );
-        assert!(rt;
-            matches!(uplink.send(&[]), Err(SendRefusal::Length)),
-            "{make}"
-        );
+        assert_eq!(rt; uplink.send(&[9]), Err(SendRefusal::Full), "{make}");
+        assert_eq!(rt; uplink.send(&[]), Err(SendRefusal::Length), "{make}");
         for i in 1..9 {
-            assert!(rt; uplink.count() == 9 - i, "{make}");
+            assert_eq!(rt; uplink.count(), 9 - i, "{make}");
             takes(rt, uplink, make, &message(i)[0..16 * i]);
         }
         let mut place = [0u8; 128];
-        assert!(rt;
-            matches!(uplink.take(&mut place), Err(TakeRefusal::Empty)),
-            "{make}"
-        );
+        assert_eq!(rt; uplink.take(&mut place), Err(TakeRefusal::Empty), "{make}");
     }
 
     #[test]
@@ -139,11 +122,12 @@ mod tests {
         let mut uplink = Line::new();
         let mut keeper = FlatImage::new();
         assert!(rt; !file_oldest(&mut uplink, &mut keeper, 3));
-        assert!(rt; matches!(uplink.send(b"\x7E\x00"), Ok(())));
+        assert_eq!(rt; uplink.send(b"\x7E\x00"), Ok(()));
         assert!(rt; !file_oldest(&mut uplink, &mut keeper, 97));
         assert!(rt; file_oldest(&mut uplink, &mut keeper, 3));
         let mut place = [1u8; 128];
-        assert!(rt; matches!(keeper.read(3, &mut place), Ok(())));
-        assert!(rt; place[0] == 0x7E && place[1] == 0 && place[127] == 0 && uplink.count() == 0);
+        assert_eq!(rt; keeper.read(3, &mut place), Ok(()));
+        assert!(rt; place[0] == 0x7E && place[1] == 0 && place[127] == 0);
+        assert_eq!(rt; uplink.count(), 0);
     }
 }

@@ -1,9 +1,10 @@
 -- Two keepers to which the same calls go.
-use Rattle.std.specs.Prelude.{ℕ, Bool, true, ◌&&◌, List, [], ◌∷◌, replicate}
+use Rattle.std.specs.Prelude.{ℕ, Bool, true, ◌&&◌, List, [], ◌∷◌, length, replicate, Result}
 use Rattle.std.specs.Str.{bytes_eq}
 use Rattle.keeper.specs.declared.alike.KeeperCall.{KeeperCall}
 use Rattle.keeper.specs.declared.alike.KeeperCall.TheVariants.{Write, Read}
-use Rattle.keeper.specs.Records.{records_after, place_after}
+use Rattle.keeper.specs.declared.KeeperRefusal.{KeeperRefusal}
+use Rattle.keeper.specs.Records.{answered, records_after, place_after}
 
 -- a call: to write a record, or to read one into a place of so many zeros
 pub data Asked : Type 0 where
@@ -13,6 +14,11 @@ pub data Asked : Type 0 where
 abbrev pub asked : KeeperCall → Asked
 asked (Write number content) = writing number content.now
 asked (Read number len) = reading number len
+
+-- the answer to a call
+abbrev pub answered_to : Asked → Result Unit KeeperRefusal
+answered_to (writing number content) = answered number (length content)
+answered_to (reading number len) = answered number len
 
 -- all records after a call
 abbrev pub after : List (List ℕ) → Asked → List (List ℕ)

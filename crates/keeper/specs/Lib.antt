@@ -3,6 +3,3 @@ pub mod Layout
 pub mod Records
 pub mod Alike
 pub mod Listed
-pub mod Parts
-pub mod Held
-pub mod Paged

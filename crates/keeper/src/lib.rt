@@ -1,12 +1,12 @@
 // Records that outlive a switch-off: the trait of their keepers.
 #![tactic(auto)]
 
-ghost use Rattle.std.specs.Prelude.{◌≡◌, ℕ, ◌+◌, ◌<◌, ◌≤◌, List, [], length, slice_index_or};
-ghost use borrow.Rule.Slice.PartMut.{put_mid};
+ghost use Rattle.std.specs.Prelude.{◌≡◌, ℕ, ◌<◌, List, [], length, slice_index_or};
 ghost use Rattle.keeper.specs.Sizes.{record_count, record_length};
 ghost use Rattle.keeper.specs.Records.{answered, records_after, place_after};
 
 pub mod alike;
+mod entry;
 pub mod flat_image;
 pub mod makes;
 mod page;
@@ -49,19 +49,11 @@ pub trait Keeper {
 pub(crate) fn admit(number: u8, length: usize) -> Result<(), KeeperRefusal>
     ensures answer { result ≡ answered number «length» }
 {
-    if number as usize >= RECORDS {
+    if usize::from(number) >= RECORDS {
         return Err(KeeperRefusal::Number);
     }
     if length != RECORD_LENGTH {
         return Err(KeeperRefusal::Length);
     }
     Ok(())
-}
-
-// Writes a content over a part of the octets.
-pub(crate) fn put_part(octets: &mut [u8], at: usize, content: &[u8])
-    requires { at + length content.now ≤ length octets.old }
-    ensures octets { octets.new ≡ put_mid at (length content.now) octets.old content.now }
-{
-    octets[at..at + content.len()].copy_from_slice(content);
 }

@@ -1,92 +1,65 @@
 // Two pages of entries, of which one is current: there the latest entry of a record counts.
-ghost use Rattle.std.specs.Prelude.{◌≡◌, ◌<◌, length};
-ghost use Rattle.keeper.specs.Sizes.{record_count, record_length};
-ghost use Rattle.keeper.specs.Layout.{current, listed, Replaced};
+ghost use Rattle.std.specs.Prelude.{◌≡◌, ◌<◌};
+ghost use Rattle.keeper.specs.Sizes.{record_count};
+ghost use Rattle.keeper.specs.Layout.{listed, latest, Replaced};
 ghost use Rattle.keeper.specs.Records.{blank_records};
-ghost use Rattle.keeper.specs.Held.{held};
 ghost use Rattle.keeper.specs.Listed.{count_listed, size_listed};
-ghost use Rattle.std.proofs.Common.{arith};
-ghost use Rattle.keeper.specs.Paged.{by_cond, latest_length};
 
+use crate::entry::Entry;
 use crate::page::Page;
 use crate::{Keeper, KeeperRefusal, admit};
+use std::mem;
 
 #[derive(Drop)]
 pub struct Pages {
-    first: Page,
-    second: Page,
-    second_is_current: bool,
+    current: Page,
+    spare: Page,
 }
 
 impl Pages {
     // All records are zeros.
+    #[tactic(auto, using(crate::proofs::Kept::blank_listed))]
     pub fn new() -> Pages
-        ensures records { listed (current result.second_is_current result.first.image result.first.used result.second.image result.second.used) ≡ blank_records }
+        ensures records { listed (latest result.current.entries.items) ≡ blank_records }
     {
         Pages {
-            first: Page::new(),
-            second: Page::new(),
-            second_is_current: false,
+            current: Page::new(),
+            spare: Page::new(),
         }
     }
 
-    // Replaces a record.
-    fn store(&mut self, number: u8, content: &[u8])
-        requires { (number < record_count) × (length content.now ≡ record_length) }
-        ensures records { Replaced (current self.old.second_is_current self.old.first.image self.old.first.used self.old.second.image self.old.second.used) (current self.new.second_is_current self.new.first.image self.new.first.used self.new.second.image self.new.second.used) number content.now }
+    // Adds an entry to the current page; where that one is full, the other one takes over what it holds, and is current.
+    fn store(&mut self, entry: Entry)
+        ensures { Replaced (latest self.old.current.entries.items) (latest self.new.current.entries.items) entry.number entry.content }
     {
-        if self.second_is_current {
-            if self.second.replace(&mut self.first, number, content) {
-                self.second_is_current = false;
-            }
-        } else {
-            if self.first.replace(&mut self.second, number, content) {
-                self.second_is_current = true;
-            }
+        if self.current.is_full() {
+            self.spare.gather(&self.current);
+            mem::swap(&mut self.current, &mut self.spare);
         }
-    }
-
-    // Tells a record.
-    fn fetch(&self, number: u8, place: &mut [u8])
-        requires { length place.old ≡ record_length }
-        ensures place { place.new ≡ current self.now.second_is_current self.now.first.image self.now.first.used self.now.second.image self.now.second.used number }
-    {
-        if self.second_is_current {
-            self.second.tell(number, place);
-        } else {
-            self.first.tell(number, place);
-        }
+        self.current.append(entry);
     }
 }
 
+#[tactic(auto, using(crate::proofs::Kept::replaced_listed, crate::specs::Listed::told_listed))]
 impl Keeper for Pages {
-    ghost records = { λ s. listed (current s.second_is_current s.first.image s.first.used s.second.image s.second.used) };
+    ghost records = { λ s. listed (latest s.current.entries.items) };
 
-    ghost count = { λ s. count_listed (held s) };
+    ghost count = { λ s. count_listed (latest s.current.entries.items) };
 
-    ghost sizes = { λ s k lt.
-        size_listed (held s) k lt
-        (by_cond (λ xs. length xs ≡ record_length) s.second_is_current
-        (latest_length s.second.image s.second.used k (omega (arith, s.second.whole, s.second.within)))
-        (latest_length s.first.image s.first.used k (omega (arith, s.first.whole, s.first.within)))) };
+    ghost sizes = { λ s. size_listed s.current.entries.items };
 
     fn write(&mut self, number: u8, content: &[u8]) -> Result<(), KeeperRefusal> {
-        match admit(number, content.len()) {
-            Ok(_) => {
-                self.store(number, content);
-                Ok(())
-            }
-            Err(refusal) => Err(refusal),
-        }
+        admit(number, content.len())?;
+        self.store(Entry {
+            number,
+            content: content.try_into().unwrap(),
+        });
+        Ok(())
     }
 
     fn read(&self, number: u8, place: &mut [u8]) -> Result<(), KeeperRefusal> {
-        match admit(number, place.len()) {
-            Ok(_) => {
-                self.fetch(number, place);
-                Ok(())
-            }
-            Err(refusal) => Err(refusal),
-        }
+        admit(number, place.len())?;
+        place.copy_from_slice(&self.current.content(number));
+        Ok(())
     }
 }

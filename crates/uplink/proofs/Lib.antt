@@ -1,2 +1,2 @@
-mod Answered
 mod LineSteps
+mod Calls

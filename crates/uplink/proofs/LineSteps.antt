@@ -1,47 +1,89 @@
--- What a send and a take do to a `Line`.
-use Rattle.std.proofs.Common.{◌≡◌, ℕ, ◌+◌, ◌-◌, ◌*◌, ◌/◌, ◌%◌, ◌<◌, ◌≤◌, List, [], ◌∷◌, ◌++◌, length, get_or, take, drop, set, refl, ap, arith, rules}
-use borrow.Rule.Slice.PartMut.{put_mid}
+-- The messages of a line, and what a send and a take do to them.
+use Rattle.std.proofs.Common.{◌≡◌, ℕ, suc, ◌+◌, ◌-◌, ◌*◌, ◌/◌, ◌%◌, ◌<◌, ◌≤◌, List, [], ◌∷◌, ◌++◌, length, get_or, take, drop, refl, sym, ap, subst, ◌∙◌, arith}
 use Rattle.std.specs.List.{flat_map}
-use Rattle.std.proofs.lemmas.List.{places, length_push, length-drop, get_or-drop}
-use Rattle.uplink.specs.declared.line.Line.{Line}
+use Rattle.std.specs.Int.{w16, to_be_bytes}
+use Rattle.std.proofs.lemmas.List.{length-append, append_assoc, take_at, drop_at, flat_map_more, length_push, length-drop, drop-drop, get_or-drop}
+use Rattle.std.proofs.lemmas.Grind.{elements}
+use Rattle.uplink.specs.Lined.{length_parsed}
 use Rattle.uplink.specs.Makes.{framed, parsed, size}
+use Rattle.uplink.specs.Sizes.{longest_message, longest_framed}
 use Rattle.uplink.specs.Waiting.{oldest}
-use Rattle.uplink.specs.Lined.{length_parsed, parsed_whole, sent, sent_short, first, taken, lined}
 
--- what the ghost fields of a line say
-abbrev pub Ghosts : List ℕ → ℕ → ℕ → Type 0
-Ghosts line used count = (used ≤ 130 * count) × (0 < count → 2 + size line ≤ used) × (take used line ≡ flat_map framed (parsed line count)) × ((k : ℕ) → length (get_or (parsed line count) k []) ≤ 128)
+-- each message is short enough for its length
+abbrev pub Short : List (List ℕ) → Type 0
+Short ms = (k : ℕ) → length (get_or ms k []) ≤ longest_message
 
-module _ (s : Line) (len : length s.line ≡ 1040) where
-  abbrev pub waits : List (List ℕ)
-  waits = parsed s.line s.count
+-- what is framed is read again
+parsed_framed : (ms : List (List ℕ)) → parsed (flat_map framed ms) (length ms) ≡ ms
+unfolding parsed
+parsed_framed [] = refl
+parsed_framed (m ∷ ms) =
+    let s : 256 * (length m / 256) + length m % 256 ≡ length m = omega arith in
+    let t : take (length m) (m ++ flat_map framed ms) ≡ m = take_at m _ _ refl in
+    let d : drop (length m) (m ++ flat_map framed ms) ≡ flat_map framed ms = drop_at m _ _ refl in
+    rw (s, t, d) (ap (λ rest. m ∷ rest) (parsed_framed ms))
 
-  abbrev pub after : ℕ → List ℕ → List ℕ → List ℕ
-  after k ys m = put_mid (s.used + 2) k (set (set s.line s.used (length m / 256)) (s.used + 1) (length m % 256)) ys
+-- how long a line is at most
+length_joined : (ms : List (List ℕ)) → Short ms → length (flat_map framed ms) ≤ longest_framed * length ms
+length_joined [] h = omega arith
+length_joined (m ∷ ms) h =
+    let f = h 0 in
+    let r = length_joined ms (λ k. h (suc k)) in
+    omega (arith, length-append m (flat_map framed ms))
 
-  pub send_step : (k : ℕ) (ys m : List ℕ) → s.count < 8 → length m ≤ 128 → k ≡ length m → ys ≡ m → (parsed (after k ys m) (s.count + 1) ≡ waits ++ m ∷ []) × Ghosts (after k ys m) (s.used + 2 + length m) (s.count + 1)
-  send_step k ys m few le kk e =
-      let tight = s.tight in
-      let w = sent s.line s.used k (length m / 256) (length m % 256) waits ys m s.whole (omega arith) refl refl e in
-      let n : s.count + 1 ≡ length (waits ++ m ∷ []) = omega (arith, length_push waits m, length_parsed s.line s.count) in
-      let y : length ys ≡ length m = ap length e in
-      let l : s.used + 2 + length m ≤ length (after k ys m) = search (rules, places) in (
-        parsed_whole (after k ys m) (s.used + 2 + length m) (s.count + 1) (waits ++ m ∷ []) w n,
-        lined (after k ys m) (s.used + 2 + length m) (s.count + 1) (waits ++ m ∷ []) w n l (sent_short waits m s.short le),
-      )
+pub room : (line : List ℕ) (count : ℕ) → line ≡ flat_map framed (parsed line count) → Short (parsed line count) → length line ≤ longest_framed * count
+room line count whole short =
+    omega (arith, ap length whole, length_joined (parsed line count) short, length_parsed line count)
 
-  pub take_step : (turned : List ℕ) → 0 < s.count → turned ≡ drop (2 + size s.line) s.line ++ take (2 + size s.line) s.line → length turned ≡ 1040 → (parsed turned (s.count - 1) ≡ drop 1 waits) × Ghosts turned (s.used - (2 + size s.line)) (s.count - 1)
-  take_step turned pos t long =
-      let tight = s.tight in
-      let few = s.few in
-      let p = length_parsed s.line s.count in
-      let w = taken s.line turned s.used waits s.whole (omega arith) (omega arith) t in
-      let n : s.count - 1 ≡ length (drop 1 waits) = omega (arith, length-drop 1 waits) in (
-        parsed_whole turned (s.used - (2 + size s.line)) (s.count - 1) (drop 1 waits) w n,
-        lined turned (s.used - (2 + size s.line)) (s.count - 1) (drop 1 waits) w n (omega arith) (λ k. rw (get_or-drop 1 waits k []) (s.short (1 + k))),
-      )
+-- what holds of a line of these messages
+abbrev pub Lined : List ℕ → ℕ → List (List ℕ) → Type 0
+Lined line count ms = (parsed line count ≡ ms) × (line ≡ flat_map framed (parsed line count)) × Short (parsed line count)
 
-  pub take_first : 0 < s.count → (size s.line ≡ length (oldest waits)) × (take (size s.line) (drop 2 s.line) ≡ oldest waits)
-  take_first pos =
-      let f = first s.line s.used waits s.whole (omega (arith, length_parsed s.line s.count)) in
-      (f.0, f.1)
+-- what a line of these messages is known by
+lined : (line : List ℕ) (count : ℕ) (ms : List (List ℕ)) → line ≡ flat_map framed ms → count ≡ length ms → Short ms → Lined line count ms
+lined line count ms w e h =
+    let p : parsed line count ≡ ms = ap (parsed line) e ∙ ap (λ xs. parsed xs (length ms)) w ∙ parsed_framed ms in
+    (p, w ∙ ap (flat_map framed) (sym p), λ k. subst (λ xs. length (get_or xs k []) ≤ longest_message) (sym p) (h k))
+
+-- one message more is short enough
+sent_short : (ms : List (List ℕ)) (m : List ℕ) → Short ms → length m ≤ longest_message → Short (ms ++ m ∷ [])
+sent_short ms m h le k = let old = h k in grind (arith, elements)
+
+-- a length in two octets
+two_octets : (n : ℕ) → n ≤ longest_message → to_be_bytes w16 n ≡ n / 256 ∷ n % 256 ∷ []
+two_octets n le =
+    let h : n / 256 % 256 ≡ n / 256 = omega arith in
+    ap (λ k. k ∷ n % 256 ∷ []) h
+
+module _ (line : List ℕ) (count : ℕ) (whole : line ≡ flat_map framed (parsed line count)) (short : Short (parsed line count)) where
+  -- one message more
+  pub sent : (line' octets m : List ℕ) → length m ≤ longest_message → octets ≡ to_be_bytes w16 (length m) → line' ≡ (line ++ octets) ++ m → Lined line' (count + 1) (parsed line count ++ m ∷ [])
+  sent line' octets m le o e =
+      let ms : List (List ℕ) = parsed line count in
+      let two : octets ≡ length m / 256 ∷ length m % 256 ∷ [] = o ∙ two_octets (length m) le in
+      let w : line' ≡ flat_map framed (ms ++ m ∷ []) =
+      e ∙ append_assoc line octets m ∙ ap (λ xs. xs ++ (octets ++ m)) whole ∙ ap (λ xs. flat_map framed ms ++ (xs ++ m)) two ∙ flat_map_more framed [] ms m in
+      lined line' (count + 1) (ms ++ m ∷ []) w (omega (arith, length_push ms m, length_parsed line count)) (sent_short ms m short le)
+
+-- what a line begins with
+first : (ms : List (List ℕ)) → 0 < length ms → (size (flat_map framed ms) ≡ length (oldest ms)) × (take (length (oldest ms)) (drop 2 (flat_map framed ms)) ≡ oldest ms) × (drop (length (oldest ms)) (drop 2 (flat_map framed ms)) ≡ flat_map framed (drop 1 ms)) × (2 + length (oldest ms) ≤ length (flat_map framed ms))
+first [] h = absurd (omega arith)
+first (m ∷ ms) h =
+    (omega arith, take_at m _ _ refl, drop_at m _ _ refl, omega (arith, length-append m (flat_map framed ms)))
+
+module _ (line : List ℕ) (count : ℕ) (whole : line ≡ flat_map framed (parsed line count)) (short : Short (parsed line count)) (some : 0 < count) where
+  -- the oldest message lies on the line
+  pub first_fits : 2 + length (oldest (parsed line count)) ≤ length line
+  first_fits = let f = first (parsed line count) (omega (arith, length_parsed line count)) in omega (arith, ap length whole)
+
+  -- the oldest is gone
+  pub taken : (line' : List ℕ) → line' ≡ drop (2 + length (oldest (parsed line count))) line → Lined line' (count - 1) (drop 1 (parsed line count))
+  taken line' e =
+      let ms : List (List ℕ) = parsed line count in
+      let f = first ms (omega (arith, length_parsed line count)) in
+      let w : line' ≡ flat_map framed (drop 1 ms) =
+      e ∙ sym (drop-drop (length (oldest ms)) 2 line) ∙ ap (λ xs. drop (length (oldest ms)) (drop 2 xs)) whole ∙ f.2 in
+      lined line' (count - 1) (drop 1 ms) w (omega (arith, length-drop 1 ms, length_parsed line count)) (λ k. rw (get_or-drop 1 ms k []) (short (1 + k)))
+
+-- what the calls on a line rest on
+pub ruleset line_steps = (length_parsed, room, sent, first_fits, taken)

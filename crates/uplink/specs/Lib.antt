@@ -2,4 +2,4 @@ pub mod Sizes
 pub mod Waiting
 pub mod Makes
 pub mod Lined
-pub mod Shown
+pub mod Asked

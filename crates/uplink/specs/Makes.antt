@@ -1,11 +1,10 @@
 -- What the two makes hold.
-use Rattle.std.specs.Prelude.{ℕ, zero, suc, ◌+◌, ◌*◌, ◌/◌, ◌%◌, List, [], ◌∷◌, length, take, drop, slice_index}
+use Rattle.std.specs.Prelude.{ℕ, zero, suc, ◌+◌, ◌*◌, ◌/◌, ◌%◌, List, [], ◌∷◌, length, map, take, drop, slice_index}
+use Rattle.arrayvec.specs.ArrayVec.{ArrayVec}
 
--- what slots hold, each up to its length
-abbrev pub shown : List (List ℕ) → List ℕ → List (List ℕ)
-shown [] ns = []
-shown (x ∷ xs) [] = []
-shown (x ∷ xs) (n ∷ ns) = take n x ∷ shown xs ns
+-- what slots hold, one message each
+abbrev pub shown : ArrayVec (ArrayVec ℕ) → List (List ℕ)
+shown slots = map (λ message. message.items) slots.items
 
 -- a message behind its length in two octets, the high one first
 abbrev pub framed : List ℕ → List ℕ

@@ -1,6 +1,7 @@
-use Rattle.std.proofs.Common.{◌≡◌, true}
+use Rattle.std.proofs.Common.{drop}
+use Rattle.uplink.proofs.Calls.{Left}
 use Rattle.uplink.proofs.alike.answer_alike.Given as goal
 
-abbrev pub invariant-loop-i : goal.invariant-loop-i
-invariant-loop-i g l =
-    g.A.Uplink.waiting l.initial.one ≡ g.B.Uplink.waiting l.initial.other → (l.alike ≡ true) × (g.A.Uplink.waiting l.one ≡ g.B.Uplink.waiting l.other)
+abbrev pub invariant-loop-call : goal.invariant-loop-call
+invariant-loop-call g l =
+    Left (g.A.Uplink.waiting l.initial.one) (g.B.Uplink.waiting l.initial.other) l.calls (g.A.Uplink.waiting l.one) (g.B.Uplink.waiting l.other) (drop l.call-index l.calls) l.alike
