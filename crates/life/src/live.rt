@@ -28,8 +28,8 @@ fn perform_all<U: Uplink, K: Keeper>(
     ensures handset { power_view U.Uplink.waiting K.Keeper.records result ≡ (goes_on (power_view U.Uplink.waiting K.Keeper.records power) (map said script.now)).handset }
 {
     let mut power = power;
-    for i in 0..script.len() {
-        let (next, answer) = perform(power, script[i]);
+    for (i, call) in script.iter().enumerate() {
+        let (next, answer) = perform(power, *call);
         power = next;
         answers[i] = answer;
     }

@@ -53,24 +53,16 @@ fn take_message<U: Uplink>(uplink: &mut U, room: u32) -> TakenMessage
 fn card_of(octets: &[u8]) -> Option<Card>
     ensures { option_map (λ c. c.octets) result ≡ (if nat_eq (length octets.now) 8 then Some octets.now else None) }
 {
-    if octets.len() != 8 {
-        return None;
-    }
-    let mut own = [0; 8];
-    own.copy_from_slice(octets);
-    Some(Card::new(own))
+    let octets: [u8; 8] = octets.try_into().ok()?;
+    Some(Card::new(octets))
 }
 
 // The network of 3 octets.
 fn network_of(octets: &[u8]) -> Option<Network>
     ensures { option_map (λ n. n.octets) result ≡ (if nat_eq (length octets.now) 3 then Some octets.now else None) }
 {
-    if octets.len() != 3 {
-        return None;
-    }
-    let mut own = [0; 3];
-    own.copy_from_slice(octets);
-    Some(Network::new(own))
+    let octets: [u8; 3] = octets.try_into().ok()?;
+    Some(Network::new(octets))
 }
 
 // Switches on, where card and network have the octets that they should.
