@@ -3,7 +3,5 @@ use Rattle.backoff.specs.Laws.{Shows}
 use Rattle.backoff.proofs.Showing.{shown_fairly}
 use Rattle.backoff.proofs.octet.show.Goals as goal
 
-pub returns : goal.returns
-returns c =
-    let e = c.shortest.ensures in
-    record { octet = e; law = subst (Shows c.args.seconds) (sym e) (shown_fairly c.args.seconds) }
+pub returns-clause-law : goal.returns-clause-law
+returns-clause-law c = subst (Shows c.args.seconds) (sym c.shortest.ensures) (shown_fairly c.args.seconds)
