@@ -1,7 +1,5 @@
 -- Octets in hexadecimal.
-use Rattle.std.specs.Prelude.{◌≡◌, ℕ, ◌+◌, ◌-◌, ◌*◌, ◌/◌, ◌%◌, cond, ◌&&◌, List, [], ◌∷◌, length, Some, None, Option, ◌==◌, nat_le, nat_lt, slice_index}
-use Rattle.script.specs.declared.hex.HexFault.{HexFault}
-use Rattle.script.specs.declared.hex.HexFault.TheVariants.{NotHex, NoMemory}
+use Rattle.std.specs.Prelude.{ℕ, ◌+◌, ◌-◌, ◌*◌, ◌/◌, ◌%◌, cond, ◌&&◌, List, [], ◌∷◌, length, Some, None, Option, ◌==◌, nat_le, nat_lt, slice_index}
 
 -- the value of a digit: 0 to 9, A to F or a to f
 abbrev pub digit_of : ℕ → Option ℕ
@@ -34,11 +32,6 @@ octets_of (high ∷ (low ∷ rest)) = before (octet_of high low) (octets_of rest
 -- the octet of a word of two digits
 abbrev pub lone_octet : List ℕ → Option ℕ
 lone_octet word = cond (length word == 2) (octet_of (slice_index word 0) (slice_index word 1)) None
-
--- what a refusal says of the word
-abbrev pub NotRead : List ℕ → HexFault → Type 0
-NotRead word NotHex = octets_of word ≡ None
-NotRead word NoMemory = Unit {0}
 
 -- the capital digit of a value below 16
 abbrev pub capital : ℕ → ℕ

@@ -1,8 +1,7 @@
 use Rattle.std.proofs.Common.{get_or, refl, ap, ◌∙◌, rules}
 use Rattle.std.proofs.lemmas.Nat.{and_mask}
-use Rattle.std.proofs.lemmas.List.{take_all}
 use Rattle.std.proofs.Output.{has_written_append, has_written_of_eq}
-use Rattle.script.specs.Hex.{capital, capitals}
+use Rattle.script.specs.Hex.{capital}
 use Rattle.script.proofs.Digits.{octet_written}
 use Rattle.script.proofs.hex.CapitalsDisplay.fmt.Goals as goal
 
@@ -21,7 +20,3 @@ loop-octet-preserved g c =
           (c.capital_digit-low.ensures ∙ ap capital (and_mask (get_or xs i 0) 4)))
           (has_written_append took _ _ _ _ _ before wrote),
     )
-
-pub returns-clause-writes : goal.returns-clause-writes
-returns-clause-writes g c = λ plain _.
-    has_written_of_eq g.W.Write.write_str_gives _ _ _ _ (ap capitals (take_all _ _ c.loop-octet-test.false)) (c.loop-octet.invariant.1 plain)
