@@ -1,6 +1,6 @@
 -- The meaning of a payload container: 2E, identity, PTI, type, the type's fixed part, elements. `place` is the
 -- place, in the whole message, of its first octet.
-use Rattle.std.specs.Prelude.{◌≡◌, ℕ, ◌+◌, ◌*◌, ◌<◌, ◌≤◌, cond, not, List, length, drop, Some, None, Ok, Err, Option, Result, ◌==◌, nat_lt, slice_index}
+use Rattle.std.specs.Prelude.{◌≡◌, ℕ, ◌+◌, ◌*◌, ◌≤◌, cond, not, List, length, drop, Some, None, Ok, Err, Option, Result, ◌==◌, nat_lt, slice_index}
 use Rattle.dl_nas.specs.declared.elements.Seen.{Seen}
 use Rattle.dl_nas.specs.declared.elements.Found.{Found}
 use Rattle.dl_nas.specs.declared.elements.ElementFault.{ElementFault}
@@ -53,10 +53,6 @@ fixed_of (Request r) ys = fixed.Request r
 -- What the reader of a fixed part answers: the rest of the octets and its place.
 abbrev pub Passed : Form → List ℕ → ℕ → List ℕ → ℕ → Type 0
 Passed k ys place rest at = (rest ≡ drop (fixed_size k ys) ys) × (at ≡ place + fixed_size k ys) × (fixed_size k ys ≤ length ys)
-
--- Or the fixed part is cut, one past the container's last octet.
-abbrev pub FixedCut : Form → List ℕ → ℕ → ContainerFault → Type 0
-FixedCut k ys place e = (length ys < fixed_size k ys) × (e ≡ Cut (place + length ys))
 
 -- The content, from the fixed part and the timer octet of the elements.
 abbrev pub content_of : Fixed → Option ℕ → Content

@@ -1,11 +1,11 @@
 // The payload container: a header, a fixed part by the type, and elements.
-ghost use Rattle.std.specs.Prelude.{◌≡◌, ◌+◌, ◌^◌, ◌<◌, length, MatchResult};
+ghost use Rattle.std.specs.Prelude.{◌≡◌, ◌<◌, length, MatchOption};
 ghost use Rattle.dl_nas.specs.declared.container.ContainerFault.TheVariants.{Element};
-ghost use Rattle.dl_nas.specs.Container.{form_of, fixed_of, Passed, FixedCut, content_of, octet_of, container_of, container_number, container_place};
+ghost use Rattle.dl_nas.specs.Container.{form_of, fixed_size, fixed_of, Passed, content_of, container_of, container_number, container_place};
 
 use crate::content::Content;
-use crate::elements::{ElementFault, Seen, walk};
-use crate::transport::Payload;
+use crate::elements::{ElementFault, walk};
+use crate::part::Part;
 
 // What is wrong with a payload container, and the place of the fault.
 #[derive(Clone, Copy, PartialEq, Eq, Debug)]
@@ -36,8 +36,7 @@ impl ContainerFault {
         match *self {
             ContainerFault::Element(fault) => fault.number(),
             ContainerFault::Cut(_) => 15,
-            ContainerFault::NotSessionManagement(_) => 17,
-            ContainerFault::UnlistedType(_) => 17,
+            ContainerFault::NotSessionManagement(_) | ContainerFault::UnlistedType(_) => 17,
         }
     }
 
@@ -47,9 +46,9 @@ impl ContainerFault {
     {
         match *self {
             ContainerFault::Element(fault) => fault.place(),
-            ContainerFault::Cut(place) => place,
-            ContainerFault::NotSessionManagement(place) => place,
-            ContainerFault::UnlistedType(place) => place,
+            ContainerFault::Cut(place)
+            | ContainerFault::NotSessionManagement(place)
+            | ContainerFault::UnlistedType(place) => place,
         }
     }
 }
@@ -140,115 +139,63 @@ fn content_of(fixed: Fixed, timer: Option<u8>) -> Content
     }
 }
 
-// The octet of an element, where the element was seen.
-pub(crate) fn octet_of(seen: Option<Seen>) -> Option<u8>
-    ensures { result ≡ octet_of seen }
-{
-    match seen {
-        Some(seen) => Some(seen.octet),
-        None => None,
-    }
-}
-
 // A fixed part, and what follows it.
 #[derive(Clone, Copy)]
 struct Opened<'a> {
     fixed: Fixed,
-    rest: Payload<'a>,
+    rest: Part<'a>,
 }
 
-// Passes the fixed part of C2: one octet, a block with a two-octet length, a block with a one-octet length.
-fn pass_blocks<'a>(part: Payload<'a>) -> Result<Payload<'a>, ContainerFault>
-    requires { part.place + length part.octets.now < 2 ^ 64 }
-    ensures { MatchResult result
-        (λ p. Passed Form.Accept part.entry.octets.now part.entry.place p.octets.now p.place)
-        (λ e. FixedCut Form.Accept part.entry.octets.now part.entry.place e) }
+// How many octets the fixed part of C2 takes: one octet, a block with a two-octet length, a block with a one-octet
+// length; none where it is cut before the second length.
+fn blocks_size(octets: &[u8]) -> Option<usize>
+    ensures { MatchOption result (length octets.now < fixed_size Form.Accept octets.now)
+        (λ n. n ≡ fixed_size Form.Accept octets.now) }
 {
-    let Payload { octets, place } = part;
-    let end = place + octets.len();
     let [_, high, low, after @ ..] = octets else {
-        return Err(ContainerFault::Cut(end));
+        return None;
     };
     let first = 256 * usize::from(*high) + usize::from(*low);
-    if first >= after.len() {
-        return Err(ContainerFault::Cut(end));
-    }
-    let size = 4 + first + usize::from(after[first]);
-    if size > octets.len() {
-        return Err(ContainerFault::Cut(end));
-    }
-    Ok(Payload {
-        octets: &octets[size..],
-        place: place + size,
-    })
+    let second = after.get(first)?;
+    Some(4 + first + usize::from(*second))
 }
 
-// Reads the fixed part of a form.
-fn open_fixed<'a>(form: Form, part: Payload<'a>) -> Result<Opened<'a>, ContainerFault>
-    requires { part.place + length part.octets.now < 2 ^ 64 }
-    ensures { MatchResult result
+// Reads the fixed part of a form, where it is whole.
+fn open_fixed<'a>(form: Form, part: Part<'a>) -> Option<Opened<'a>>
+    ensures { MatchOption result (length part.entry.octets.now < fixed_size form part.entry.octets.now)
         (λ o. (o.fixed ≡ fixed_of form part.entry.octets.now)
-        × Passed form part.entry.octets.now part.entry.place o.rest.octets.now o.rest.place)
-        (λ e. FixedCut form part.entry.octets.now part.entry.place e) }
+        × Passed form part.entry.octets.now part.entry.place o.rest.octets.now o.rest.place) }
 {
-    let Payload { octets, place } = part;
-    let end = place + octets.len();
-    match form {
-        Form::Accept => Ok(Opened {
-            fixed: Fixed::Accept,
-            rest: pass_blocks(part)?,
-        }),
-        Form::Cause(caused) => {
-            let [cause, after @ ..] = octets else {
-                return Err(ContainerFault::Cut(end));
-            };
-            Ok(Opened {
-                fixed: Fixed::Cause(caused, *cause),
-                rest: Payload {
-                    octets: after,
-                    place: place + 1,
-                },
-            })
-        }
-        Form::Command => Ok(Opened {
-            fixed: Fixed::Command,
-            rest: part,
-        }),
-        Form::Request(returned) => Ok(Opened {
-            fixed: Fixed::Request(returned),
-            rest: Payload {
-                octets: &octets[octets.len()..],
-                place: end,
-            },
-        }),
-    }
+    let (fixed, size) = match form {
+        Form::Accept => (Fixed::Accept, blocks_size(part.octets)?),
+        Form::Cause(caused) => (Fixed::Cause(caused, *part.octets.first()?), 1),
+        Form::Command => (Fixed::Command, 0),
+        Form::Request(returned) => (Fixed::Request(returned), part.octets.len()),
+    };
+    let rest = part.past(size)?;
+    Some(Opened { fixed, rest })
 }
 
 // Reads a payload container.
-pub(crate) fn read_container(part: Payload<'_>) -> Result<Inner, ContainerFault>
-    requires { part.place + length part.octets.now < 2 ^ 64 }
+pub(crate) fn read_container(part: Part<'_>) -> Result<Inner, ContainerFault>
     ensures { result ≡ container_of part.entry.octets.now part.entry.place }
 {
-    let [0x2E, identity, pti, message_type, rest @ ..] = part.octets else {
+    let [0x2E, identity, pti, message_type, octets @ ..] = part.octets else {
         return Err(match part.octets {
-            [] | [0x2E, ..] => ContainerFault::Cut(part.place + part.octets.len()),
+            [] | [0x2E, ..] => ContainerFault::Cut(part.end()),
             _ => ContainerFault::NotSessionManagement(part.place),
         });
     };
-    let Some(form) = form_of(*message_type) else {
-        return Err(ContainerFault::UnlistedType(part.place + 3));
+    let form = form_of(*message_type).ok_or(ContainerFault::UnlistedType(part.place + 3))?;
+    let body = Part {
+        octets,
+        place: part.place + 4,
     };
-    let opened = open_fixed(
-        form,
-        Payload {
-            octets: rest,
-            place: part.place + 4,
-        },
-    )?;
-    let found = walk(opened.rest.octets, opened.rest.place)?;
+    let opened = open_fixed(form, body).ok_or(ContainerFault::Cut(part.end()))?;
+    let found = walk(opened.rest)?;
     Ok(Inner {
         identity: *identity,
         pti: *pti,
-        content: content_of(opened.fixed, octet_of(found.timer)),
+        content: content_of(opened.fixed, found.timer.map(|seen| seen.octet)),
     })
 }
