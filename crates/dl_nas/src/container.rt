@@ -1,7 +1,7 @@
 // The payload container: a header, a fixed part by the type, and elements.
-ghost use Rattle.std.specs.Prelude.{◌≡◌, ◌<◌, length, MatchOption};
+ghost use Rattle.std.specs.Prelude.{◌≡◌, ◌<◌, ◌≤◌, length, MatchOption};
 ghost use Rattle.dl_nas.specs.declared.container.ContainerFault.TheVariants.{Element};
-ghost use Rattle.dl_nas.specs.Container.{form_of, fixed_size, fixed_of, Passed, content_of, container_of, container_number, container_place};
+ghost use Rattle.dl_nas.specs.Container.{form_of, fixed_size, Passed, caused_of, returned_of, content_of, container_of, container_number, container_place};
 
 use crate::content::Content;
 use crate::elements::{ElementFault, walk};
@@ -80,15 +80,6 @@ pub(crate) enum Form {
     Request(Returned),
 }
 
-// A fixed part that was read.
-#[derive(Clone, Copy)]
-pub(crate) enum Fixed {
-    Accept,
-    Cause(Caused, u8),
-    Command,
-    Request(Returned),
-}
-
 // What a container says.
 #[derive(Clone, Copy)]
 pub(crate) struct Inner {
@@ -115,39 +106,36 @@ fn form_of(message_type: u8) -> Option<Form>
     }
 }
 
-// The content, from the fixed part and the timer octet of the elements.
-fn content_of(fixed: Fixed, timer: Option<u8>) -> Content
-    ensures { result ≡ content_of fixed timer }
-{
-    match fixed {
-        Fixed::Accept => Content::EstablishmentAccept { timer },
-        Fixed::Cause(Caused::EstablishmentReject, cause) => Content::EstablishmentReject {
-            cause,
-            timer,
-        },
-        Fixed::Cause(Caused::ModificationReject, cause) => Content::ModificationReject {
-            cause,
-            timer,
-        },
-        Fixed::Cause(Caused::ReleaseReject, cause) => Content::ReleaseReject { cause, timer },
-        Fixed::Cause(Caused::ReleaseCommand, cause) => Content::ReleaseCommand { cause, timer },
-        Fixed::Cause(Caused::Status, cause) => Content::Status { cause, timer },
-        Fixed::Command => Content::ModificationCommand { timer },
-        Fixed::Request(Returned::Establishment) => Content::EstablishmentRequest,
-        Fixed::Request(Returned::Modification) => Content::ModificationRequest,
-        Fixed::Request(Returned::Release) => Content::ReleaseRequest,
+impl Caused {
+    // The message of the type, with its cause octet and the timer octet of its elements.
+    fn content(self, cause: u8, timer: Option<u8>) -> Content
+        ensures { result ≡ caused_of self cause timer }
+    {
+        match self {
+            Caused::EstablishmentReject => Content::EstablishmentReject { cause, timer },
+            Caused::ModificationReject => Content::ModificationReject { cause, timer },
+            Caused::ReleaseReject => Content::ReleaseReject { cause, timer },
+            Caused::ReleaseCommand => Content::ReleaseCommand { cause, timer },
+            Caused::Status => Content::Status { cause, timer },
+        }
     }
 }
 
-// A fixed part, and what follows it.
-#[derive(Clone, Copy)]
-struct Opened<'a> {
-    fixed: Fixed,
-    rest: Part<'a>,
+impl Returned {
+    // The message of the type.
+    fn content(self) -> Content
+        ensures { result ≡ returned_of self }
+    {
+        match self {
+            Returned::Establishment => Content::EstablishmentRequest,
+            Returned::Modification => Content::ModificationRequest,
+            Returned::Release => Content::ReleaseRequest,
+        }
+    }
 }
 
 // How many octets the fixed part of C2 takes: one octet, a block with a two-octet length, a block with a one-octet
-// length; none where it is cut before the second length.
+// length; none where a length is missing.
 fn blocks_size(octets: &[u8]) -> Option<usize>
     ensures { MatchOption result (length octets.now < fixed_size Form.Accept octets.now)
         (λ n. n ≡ fixed_size Form.Accept octets.now) }
@@ -160,20 +148,33 @@ fn blocks_size(octets: &[u8]) -> Option<usize>
     Some(4 + first + usize::from(*second))
 }
 
-// Reads the fixed part of a form, where it is whole.
-fn open_fixed<'a>(form: Form, part: Part<'a>) -> Option<Opened<'a>>
-    ensures { MatchOption result (length part.entry.octets.now < fixed_size form part.entry.octets.now)
-        (λ o. (o.fixed ≡ fixed_of form part.entry.octets.now)
-        × Passed form part.entry.octets.now part.entry.place o.rest.octets.now o.rest.place) }
-{
-    let (fixed, size) = match form {
-        Form::Accept => (Fixed::Accept, blocks_size(part.octets)?),
-        Form::Cause(caused) => (Fixed::Cause(caused, *part.octets.first()?), 1),
-        Form::Command => (Fixed::Command, 0),
-        Form::Request(returned) => (Fixed::Request(returned), part.octets.len()),
-    };
-    let rest = part.past(size)?;
-    Some(Opened { fixed, rest })
+impl Form {
+    // What follows the fixed part, where that is whole.
+    fn behind<'a>(self, part: Part<'a>) -> Option<Part<'a>>
+        ensures { MatchOption result (length part.entry.octets.now < fixed_size self part.entry.octets.now)
+            (λ p. Passed self part.entry.octets.now part.entry.place p.octets.now p.place) }
+    {
+        let size = match self {
+            Form::Accept => blocks_size(part.octets)?,
+            Form::Cause(_) => 1,
+            Form::Command => 0,
+            Form::Request(_) => part.octets.len(),
+        };
+        part.past(size)
+    }
+
+    // The content, from the fixed part at the front of the octets and the timer octet of the elements.
+    fn content(self, octets: &[u8], timer: Option<u8>) -> Content
+        requires { fixed_size self octets.now ≤ length octets.now }
+        ensures { result ≡ content_of self octets.now timer }
+    {
+        match self {
+            Form::Accept => Content::EstablishmentAccept { timer },
+            Form::Cause(caused) => caused.content(octets[0], timer),
+            Form::Command => Content::ModificationCommand { timer },
+            Form::Request(returned) => returned.content(),
+        }
+    }
 }
 
 // Reads a payload container.
@@ -191,11 +192,12 @@ pub(crate) fn read_container(part: Part<'_>) -> Result<Inner, ContainerFault>
         octets,
         place: part.place + 4,
     };
-    let opened = open_fixed(form, body).ok_or(ContainerFault::Cut(part.end()))?;
-    let found = walk(opened.rest)?;
+    let elements = form.behind(body).ok_or(ContainerFault::Cut(part.end()))?;
+    let found = walk(elements)?;
+    let timer = found.timer.map(|seen| seen.octet);
     Ok(Inner {
         identity: *identity,
         pti: *pti,
-        content: content_of(opened.fixed, found.timer.map(|seen| seen.octet)),
+        content: form.content(octets, timer),
     })
 }

@@ -92,9 +92,7 @@ pub struct Received {
 fn agree(found: Found, inner: Inner, end: usize) -> Result<Received, MessageFault>
     ensures { result ≡ agreed found inner end }
 {
-    let Some(outer) = found.identity else {
-        return Err(MessageFault::Identity(end));
-    };
+    let outer = found.identity.ok_or(MessageFault::Identity(end))?;
     if outer.octet != inner.identity {
         return Err(MessageFault::Identity(outer.place));
     }
