@@ -101,9 +101,11 @@ fn rounded_up(seconds: u32, unit: TimerUnit) -> u64
     u64::from(seconds).div_ceil(u64::from(unit.seconds()))
 }
 
-// The octet of the shortest unit whose value, rounded up, takes five bits.
-fn shortest(seconds: u32) -> Result<u8, ShowRefusal>
-    ensures { result ≡ shown seconds }
+// The octet that shows the seconds left of a running timer: in the shortest unit whose value, rounded up, takes five
+// bits. It refuses outside 1 to 35,712,000 seconds.
+pub fn show(seconds: u32) -> Result<u8, ShowRefusal>
+    ensures octet { result ≡ shown seconds }
+    ensures law { Shows seconds result }
 {
     if seconds == 0 {
         return Err(ShowRefusal::NoSeconds);
@@ -124,12 +126,4 @@ fn shortest(seconds: u32) -> Result<u8, ShowRefusal>
         }
     }
     Err(ShowRefusal::TooLong)
-}
-
-// The octet that shows the seconds left of a running timer. It refuses outside 1 to 35,712,000 seconds.
-pub fn show(seconds: u32) -> Result<u8, ShowRefusal>
-    ensures octet { result ≡ shown seconds }
-    ensures law { Shows seconds result }
-{
-    shortest(seconds)
 }
