@@ -1,4 +1,5 @@
 -- Octets in hexadecimal.
+use Rattle.std.specs.List.{flat_map}
 use Rattle.std.specs.Prelude.{ℕ, ◌+◌, ◌-◌, ◌*◌, ◌/◌, ◌%◌, cond, ◌&&◌, List, [], ◌∷◌, length, Some, None, Option, ◌==◌, nat_le, nat_lt, slice_index}
 
 -- the value of a digit: 0 to 9, A to F or a to f
@@ -37,7 +38,10 @@ lone_octet word = cond (length word == 2) (octet_of (slice_index word 0) (slice_
 abbrev pub capital : ℕ → ℕ
 capital d = cond (nat_lt d 10) (48 + d) (55 + d)
 
--- octets as they are written: two capital digits each
+-- an octet as it is written: two capital digits
+abbrev pub capital_pair : ℕ → List ℕ
+capital_pair o = capital (o / 16) ∷ (capital (o % 16) ∷ [])
+
+-- octets as they are written
 abbrev pub capitals : List ℕ → List ℕ
-capitals [] = []
-capitals (o ∷ os) = capital (o / 16) ∷ (capital (o % 16) ∷ capitals os)
+capitals os = flat_map capital_pair os

@@ -44,11 +44,7 @@ pub fn octets(heap: Global, word: &[u8]) -> Result<Option<Vec<u8>>, AllocError>
         found.push(octet)?;
         rest = after;
     }
-    if rest.is_empty() {
-        Ok(Some(found))
-    } else {
-        Ok(None)
-    }
+    Ok(rest.is_empty().then_some(found))
 }
 
 // The capital digit of a value below 16.
