@@ -2,7 +2,6 @@
 ghost use Rattle.std.specs.Prelude.{◌≡◌, ◌+◌};
 ghost use Rattle.std.specs.Option.{option_map};
 ghost use Rattle.std.specs.Result.{result_ok};
-ghost use Rattle.ul_nas.specs.declared.message.Content.TheVariants.{EstablishmentRequest};
 ghost use Rattle.ul_nas.specs.Message.{carried, viewed, request_number, request_type_of, emergency, message_type_of};
 ghost use Rattle.ul_nas.specs.Lawful.{lawful_slice, lawful_name, lawful_elements, lawful_pti, lawful};
 
@@ -115,19 +114,25 @@ fn name_is_lawful(name: Option<&[u8]>) -> bool
     name.is_none_or(|octets| matches!(octets.len(), 1..=100))
 }
 
-// An emergency request has neither slice nor name.
-fn elements_are_lawful(establishment: Establishment<'_>) -> bool
-    ensures { result ≡ lawful_elements (carried (EstablishmentRequest establishment.entry)) }
+// The slice and the name of an establishment request; an emergency request has neither.
+fn elements_are_lawful(content: &Content<'_>) -> bool
+    ensures { result ≡ lawful_elements (carried content.now) }
 {
-    let Establishment {
-        request_type,
-        slice,
-        name,
-    } = establishment;
-    if request_type.is_emergency() {
-        slice.is_none() && name.is_none()
-    } else {
-        slice_is_lawful(slice) && name_is_lawful(name)
+    match *content {
+        Content::EstablishmentRequest(
+            Establishment {
+                request_type,
+                slice,
+                name,
+            },
+        ) => {
+            if request_type.is_emergency() {
+                slice.is_none() && name.is_none()
+            } else {
+                slice_is_lawful(slice) && name_is_lawful(name)
+            }
+        }
+        _ => true,
     }
 }
 
@@ -148,11 +153,8 @@ impl<'a> UplinkMessage<'a> {
     pub fn is_lawful(&self) -> bool
         ensures { result ≡ lawful (viewed self.now) }
     {
-        let in_range = matches!(self.identity, 1..=15) && pti_is_lawful(&self.content, self.pti);
-        match self.content {
-            Content::EstablishmentRequest(establishment) => in_range
-                && elements_are_lawful(establishment),
-            _ => in_range,
-        }
+        matches!(self.identity, 1..=15)
+            && pti_is_lawful(&self.content, self.pti)
+            && elements_are_lawful(&self.content)
     }
 }
