@@ -143,7 +143,7 @@ fn blocks_size(octets: &[u8]) -> Option<usize>
     let [_, high, low, after @ ..] = octets else {
         return None;
     };
-    let first = 256 * usize::from(*high) + usize::from(*low);
+    let first = usize::from(u16::from_be_bytes([*high, *low]));
     let second = after.get(first)?;
     Some(4 + first + usize::from(*second))
 }

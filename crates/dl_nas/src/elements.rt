@@ -73,7 +73,7 @@ impl Begun<'_> {
             0x80..=0xFF => 0,
             0x12 | 0x56 | 0x58 | 0x59 => 1,
             0x70..=0x7F => match self.after {
-                [high, low, ..] => 2 + 256 * usize::from(*high) + usize::from(*low),
+                [high, low, ..] => 2 + usize::from(u16::from_be_bytes([*high, *low])),
                 _ => return Err(ElementFault::Cut(end)),
             },
             _ => match self.after {

@@ -78,7 +78,7 @@ pub(crate) fn read_outer(message: &[u8]) -> Result<Outer<'_>, TransportFault>
     let [high, low, rest @ ..] = rest else {
         return Err(TransportFault::Cut(message.len()));
     };
-    let size = 256 * usize::from(*high) + usize::from(*low);
+    let size = usize::from(u16::from_be_bytes([*high, *low]));
     let (payload, elements) = rest
         .split_at_checked(size)
         .ok_or(TransportFault::Cut(message.len()))?;
