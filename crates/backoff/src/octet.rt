@@ -3,17 +3,17 @@ ghost use Rattle.std.specs.Prelude.{◌≡◌, ℕ, ◌/◌, ◌%◌, true};
 ghost use Rattle.backoff.specs.Octet.{unit_number, unit_of, unit_seconds, timed, reading, rounded, shown};
 ghost use Rattle.backoff.specs.Laws.{Shows};
 
-// The unit of a timer octet, in the order of its three bits.
+// The unit of a timer octet, with the three bits that name it.
 #[derive(Clone, Copy, PartialEq, Eq, Debug)]
 pub enum TimerUnit {
-    TenMinutes,
-    OneHour,
-    TenHours,
-    TwoSeconds,
-    ThirtySeconds,
-    OneMinute,
-    ThreeHundredTwentyHours,
-    Deactivated,
+    TenMinutes = 0,
+    OneHour = 1,
+    TenHours = 2,
+    TwoSeconds = 3,
+    ThirtySeconds = 4,
+    OneMinute = 5,
+    ThreeHundredTwentyHours = 6,
+    Deactivated = 7,
 }
 
 // What a timer octet says: zero stops the timer, a number of seconds starts it, and
@@ -37,16 +37,7 @@ impl TimerUnit {
     pub fn number(self) -> u8
         ensures { result ≡ unit_number self }
     {
-        match self {
-            TimerUnit::TenMinutes => 0,
-            TimerUnit::OneHour => 1,
-            TimerUnit::TenHours => 2,
-            TimerUnit::TwoSeconds => 3,
-            TimerUnit::ThirtySeconds => 4,
-            TimerUnit::OneMinute => 5,
-            TimerUnit::ThreeHundredTwentyHours => 6,
-            TimerUnit::Deactivated => 7,
-        }
+        self as u8
     }
 
     // The seconds of one step of the unit; a deactivated timer has no steps.
@@ -107,13 +98,14 @@ fn rounded_up(seconds: u32, unit: TimerUnit) -> u64
     requires { timed unit ≡ true }
     ensures { result ≡ rounded seconds unit }
 {
-    let step = u64::from(unit.seconds());
-    (u64::from(seconds) + (step - 1)) / step
+    u64::from(seconds).div_ceil(u64::from(unit.seconds()))
 }
 
-// The octet of the shortest unit whose value, rounded up, takes five bits.
-fn shortest(seconds: u32) -> Result<u8, ShowRefusal>
-    ensures { result ≡ shown seconds }
+// The octet that shows the seconds left of a running timer: in the shortest unit whose value, rounded up, takes five
+// bits. It refuses outside 1 to 35,712,000 seconds.
+pub fn show(seconds: u32) -> Result<u8, ShowRefusal>
+    ensures octet { result ≡ shown seconds }
+    ensures law { Shows seconds result }
 {
     if seconds == 0 {
         return Err(ShowRefusal::NoSeconds);
@@ -127,19 +119,11 @@ fn shortest(seconds: u32) -> Result<u8, ShowRefusal>
         TimerUnit::TenHours,
         TimerUnit::ThreeHundredTwentyHours,
     ];
-    for i in 0..7 {
-        let value = rounded_up(seconds, units[i]);
+    for unit in units {
+        let value = rounded_up(seconds, unit);
         if value <= 31 {
-            return Ok(32 * units[i].number() + value as u8);
+            return Ok(32 * unit.number() + value as u8);
         }
     }
     Err(ShowRefusal::TooLong)
-}
-
-// The octet that shows the seconds left of a running timer. It refuses outside 1 to 35,712,000 seconds.
-pub fn show(seconds: u32) -> Result<u8, ShowRefusal>
-    ensures octet { result ≡ shown seconds }
-    ensures law { Shows seconds result }
-{
-    shortest(seconds)
 }

@@ -1,8 +1,8 @@
 // What a line of the script asks for.
 use bar_record::kept::RECORD_LENGTH;
-use script::hex::{HexFault, octet, octets};
+use script::hex::{octet, octets};
 use script::number::number;
-use script::text::{is_spelled, word};
+use script::text::word;
 use std::alloc::{AllocError, Global};
 
 // A call of the bench, with its arguments.
@@ -35,33 +35,22 @@ enum Verb {
 }
 
 fn verb_of(word: &[u8]) -> Verb {
-    if is_spelled(word, b"octet") {
-        Verb::Octet
-    } else if is_spelled(word, b"seconds") {
-        Verb::Seconds
-    } else if is_spelled(word, b"read") {
-        Verb::Read
-    } else if is_spelled(word, b"sent") {
-        Verb::Sent
-    } else if is_spelled(word, b"record") {
-        Verb::Record
-    } else {
-        Verb::Other
+    match word {
+        b"octet" => Verb::Octet,
+        b"seconds" => Verb::Seconds,
+        b"read" => Verb::Read,
+        b"sent" => Verb::Sent,
+        b"record" => Verb::Record,
+        _ => Verb::Other,
     }
 }
 
 // The octets of a word in hexadecimal; `.` stands for none.
 fn octets_of(heap: Global, word: &[u8]) -> Result<Option<Vec<u8>>, AllocError> {
-    if is_spelled(word, b".") {
-        return Ok(Some(Vec::new(heap)));
-    }
-    if word.is_empty() {
-        return Ok(None);
-    }
-    match octets(heap, word) {
-        Ok(read) => Ok(Some(read)),
-        Err(HexFault::NotHex) => Ok(None),
-        Err(HexFault::NoMemory) => Err(AllocError),
+    match word {
+        b"." => Ok(Some(Vec::new(heap))),
+        [] => Ok(None),
+        _ => octets(heap, word),
     }
 }
 

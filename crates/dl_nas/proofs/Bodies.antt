@@ -12,13 +12,12 @@ use Rattle.dl_nas.specs.declared.container.Caused.TheVariants as caused
 use Rattle.dl_nas.specs.declared.container.Returned.TheVariants as returned
 use Rattle.dl_nas.specs.declared.container.Form.{Form}
 use Rattle.dl_nas.specs.declared.container.Form.TheVariants.{Accept, Cause, Command, Request}
-use Rattle.dl_nas.specs.declared.container.Fixed.TheVariants as fixed
 use Rattle.dl_nas.specs.declared.container.Inner.{Inner}
 use Rattle.dl_nas.specs.declared.container.ContainerFault.{ContainerFault}
 use Rattle.dl_nas.specs.declared.container.ContainerFault.TheVariants.{Element, Cut, UnlistedType}
 use Rattle.dl_nas.specs.Content.{message_type_of}
 use Rattle.dl_nas.specs.Elements.{nothing, walked}
-use Rattle.dl_nas.specs.Container.{form_of, fixed_size, fixed_of, content_of, octet_of, inner_lifted, inner_of, body_of, container_of}
+use Rattle.dl_nas.specs.Container.{form_of, fixed_size, caused_of, content_of, octet_of, inner_lifted, inner_of, body_of, container_of}
 use Rattle.dl_nas.specs.Format.{Item, identifier, value, first_value, Timed, CausedBy, Blocks, Says}
 use Rattle.dl_nas.specs.Laws.{first_seen, firsts}
 use Rattle.dl_nas.proofs.Contents.{header_whole}
@@ -29,12 +28,8 @@ pub pass : {T E : Type 0} (b : Bool) (e : E) (r : Result T E) (x : T) → cond b
 pass true e r x h = absurd (err_ok e x h)
 pass false e r x h = (refl, h)
 
-abbrev some_or : {A : Type 0} → Option A → A → A
-some_or None d = d
-some_or (Some x) d = x
-
 pub some_same : {A : Type 0} (x y : A) → Some x ≡ Some y → x ≡ y
-some_same x y h = ap (λ o. some_or o x) h
+some_same x y h = cc
 
 lifted_ok : (r : Result Found ElementFault) (k : Found → Inner) (c : Inner) → inner_lifted r k ≡ Ok c → (f : Found) × (r ≡ Ok f) × (k f ≡ c)
 lifted_ok (Ok f) k c h = (f, refl, ok_same (k f) c h)
@@ -57,9 +52,9 @@ type_if M t n k₀ k o e h f =
     (λ b. f (sym (cond-false (eqb t n) (Some k₀) o b) ∙ h))
     (cases_Bool (eqb t n))
 
-form_type : (t : ℕ) (k : Form) (ys : List ℕ) (tm : Option ℕ) → form_of t ≡ Some k → t ≡ message_type_of (content_of (fixed_of k ys) tm)
+form_type : (t : ℕ) (k : Form) (ys : List ℕ) (tm : Option ℕ) → form_of t ≡ Some k → t ≡ message_type_of (content_of k ys tm)
 form_type t k ys tm h =
-    let M : Form → ℕ = λ k. message_type_of (content_of (fixed_of k ys) tm) in
+    let M : Form → ℕ = λ k. message_type_of (content_of k ys tm) in
     type_if M t 0xC1 (Request returned.Establishment) k _ refl h (λ h.
     type_if M t 0xC2 Accept k _ refl h (λ h.
     type_if M t 0xC3 (Cause caused.EstablishmentReject) k _ refl h (λ h.
@@ -104,7 +99,7 @@ blocks_here (m ∷ (h ∷ (l ∷ zs))) t fits d =
       (d.0, d.1, rest-is ∙ d.2, d.3),
     )
 
-says_here : (k : Form) (ys : List ℕ) (t : Option ℕ) → fixed_size k ys ≤ length ys → Timed t (drop (fixed_size k ys) ys) → Says (content_of (fixed_of k ys) t) ys
+says_here : (k : Form) (ys : List ℕ) (t : Option ℕ) → fixed_size k ys ≤ length ys → Timed t (drop (fixed_size k ys) ys) → Says (content_of k ys t) ys
 says_here Accept ys t l d = blocks_here ys t l d
 says_here (Cause caused.EstablishmentReject) ys t l d = cause_here ys t l d
 says_here (Cause caused.ModificationReject) ys t l d = cause_here ys t l d
@@ -118,13 +113,13 @@ says_here (Request returned.Release) ys t l d = tt
 
 body_ok : (i p : ℕ) (o : Option Form) (ys : List ℕ) (c : Inner) → body_of i p o ys 6 ≡ Ok c
     → (k : Form) × (o ≡ Some k) × (fixed_size k ys ≤ length ys) × (t : Option ℕ) × Timed t (drop (fixed_size k ys) ys)
-    × (◌≡◌ {A = Inner} (record { identity = i; pti = p; content = content_of (fixed_of k ys) t }) c)
+    × (◌≡◌ {A = Inner} (record { identity = i; pti = p; content = content_of k ys t }) c)
 body_ok i p None ys c h = absurd (err_ok (UnlistedType 9) c h)
 body_ok i p (Some k) ys c h =
     let n = fixed_size k ys in
     let r = walked (drop n ys) 0 (6 + 4 + n) nothing in
-    let q = pass (ltb (length ys) n) (Cut (6 + 4 + length ys)) (inner_lifted r (inner_of i p (fixed_of k ys))) c h in
-    let l = lifted_ok r (inner_of i p (fixed_of k ys)) c q.1 in
+    let q = pass (ltb (length ys) n) (Cut (6 + 4 + length ys)) (inner_lifted r (inner_of i p k ys)) c h in
+    let l = lifted_ok r (inner_of i p k ys) c q.1 in
     let s = (walk_finds_first (drop n ys) (6 + 4 + n) l.0).0 l.1 in (
       k,
       refl,
@@ -153,17 +148,17 @@ container_form xs c w =
     let first = eqb-true (get_or xs 0 0) 0x2E (not-false (eqb (get_or xs 0 0) 0x2E) q.0) in
     let front = four xs (ltb-false (length xs) 4 r.0) first in
     let m = form_type (get_or xs 3 0) b.0 (drop 4 xs) b.3 b.1 in
-    let done : Contained xs (record { identity = get_or xs 1 0; pti = get_or xs 2 0; content = content_of (fixed_of b.0 (drop 4 xs)) b.3 }) =
+    let done : Contained xs (record { identity = get_or xs 1 0; pti = get_or xs 2 0; content = content_of b.0 (drop 4 xs) b.3 }) =
     (drop 4 xs, front ∙ ap (λ t. 0x2E ∷ (get_or xs 1 0 ∷ (get_or xs 2 0 ∷ (t ∷ drop 4 xs)))) m, says_here b.0 (drop 4 xs) b.3 b.2 b.4) in
     subst (λ c. Contained xs c) b.5 done
 
 -- ---- what has the form is accepted
 abbrev Formed : Content → List ℕ → Type 0
 Formed content ys = (k : Form) × (form_of (message_type_of content) ≡ Some k) × (fixed_size k ys ≤ length ys) × (t : Option ℕ)
-    × Timed t (drop (fixed_size k ys) ys) × (content_of (fixed_of k ys) t ≡ content)
+    × Timed t (drop (fixed_size k ys) ys) × (content_of k ys t ≡ content)
 
-cause_back : (kind : Caused) (c : ℕ) (t : Option ℕ) (ys : List ℕ) → form_of (message_type_of (content_of (fixed.Cause kind c) t)) ≡ Some (Cause kind)
-    → CausedBy c t ys → Formed (content_of (fixed.Cause kind c) t) ys
+cause_back : (kind : Caused) (c : ℕ) (t : Option ℕ) (ys : List ℕ) → form_of (message_type_of (caused_of kind c t)) ≡ Some (Cause kind)
+    → CausedBy c t ys → Formed (caused_of kind c t) ys
 cause_back kind c t ys o s =
     let d = s.2 in (
       Cause kind,
@@ -171,7 +166,7 @@ cause_back kind c t ys o s =
       omega (arith, ap (λ l. length l) s.1),
       t,
       (d.0, d.1, ap (λ l. drop 1 l) s.1 ∙ d.2, d.3),
-      ap (λ l. content_of (fixed.Cause kind (get_or l 0 0)) t) s.1,
+      ap (λ l. caused_of kind (get_or l 0 0) t) s.1,
     )
 
 accept_back : (t : Option ℕ) (ys : List ℕ) → Blocks t ys → Formed (EstablishmentAccept t) ys
@@ -212,7 +207,7 @@ container_back xs c s =
     let k = b.0 in
     let d = b.4 in
     let at = 6 + 4 + fixed_size k ys in
-    let inner : Option ℕ → Result Inner ContainerFault = λ t. Ok (record { identity = c.identity; pti = c.pti; content = content_of (fixed_of k ys) t }) in
+    let inner : Option ℕ → Result Inner ContainerFault = λ t. Ok (record { identity = c.identity; pti = c.pti; content = content_of k ys t }) in
     ap (λ l. container_of l 6) s.1
     ∙ header_whole zs ys 6 k (omega arith) refl refl b.1 (drop (fixed_size k ys) ys) at (Ok (firsts d.0 at)) refl refl b.2
     (sym (ap (λ l. walked l 0 at nothing) d.2 ∙ walk_finds d.0 at d.1))

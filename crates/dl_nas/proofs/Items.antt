@@ -1,5 +1,5 @@
 -- The law of the walk: it accepts exactly the sequences of whole elements, and finds the first of each.
-use Rattle.std.proofs.Common.{◌≡◌, ℕ, zero, suc, ◌+◌, ◌*◌, ◌<◌, ◌≤◌, Bool, true, false, cond, eqb, ltb, leb, List, [], ◌∷◌, ◌++◌, length, get_or, take, drop, is_some, is_err, Some, None, Ok, Err, Option, Result, sym, refl, ap, ◌∙◌, ⊎_elim, arith}
+use Rattle.std.proofs.Common.{◌≡◌, ℕ, zero, suc, ◌+◌, ◌*◌, ◌<◌, ◌≤◌, Bool, true, false, cond, eqb, ltb, leb, List, [], ◌∷◌, ◌++◌, length, get_or, take, drop, is_some, Some, None, Ok, Err, Option, Result, sym, refl, ap, ◌∙◌, ⊎_elim, arith}
 use Rattle.std.proofs.lemmas.List.{get_or_append_left, length-append, length-drop, length-take-le, take-append-drop, drop_at, drop-drop}
 use Rattle.std.proofs.lemmas.Bool.Decides.{nat_tests}
 use Rattle.std.proofs.lemmas.Bool.{true≢false, eqb-true, leb-true, leb-false, ltb-false, cases_Bool, cases_lt, cond-true, cond-false}
@@ -14,14 +14,10 @@ use Rattle.dl_nas.proofs.Walks.{walked_more, walked_skip, walked_cut}
 
 -- a refusal is no answer, and an answer is one
 pub err_ok : {T E : Type 0} (e : E) (x : T) → ◌≡◌ {A = Result T E} (Err e) (Ok x) → ⊥
-err_ok e x h = true≢false (ap (λ r. is_err r) h)
-
-abbrev ok_or : {T E : Type 0} → Result T E → T → T
-ok_or (Ok x) d = x
-ok_or (Err e) d = d
+err_ok e x h = cc
 
 pub ok_same : {T E : Type 0} (x y : T) → ◌≡◌ {A = Result T E} (Ok x) (Ok y) → x ≡ y
-ok_same x y h = ap (λ r. ok_or r x) h
+ok_same x y h = cc
 
 -- ---- whole elements are accepted
 pub whole : (e : Item) → Lawful e → (fault_at (identifier e) 0 (behind e) ≡ None) × (length (behind e) ≡ extent (identifier e) (behind e))

@@ -1,17 +1,17 @@
 -- The meaning of a payload container: 2E, identity, PTI, type, the type's fixed part, elements. `place` is the
 -- place, in the whole message, of its first octet.
-use Rattle.std.specs.Prelude.{◌≡◌, ℕ, ◌+◌, ◌*◌, ◌<◌, ◌≤◌, cond, not, List, length, drop, Some, None, Ok, Err, Option, Result, ◌==◌, nat_lt, slice_index}
+use Rattle.std.specs.Prelude.{◌≡◌, ℕ, ◌+◌, ◌*◌, ◌≤◌, cond, not, List, length, drop, Some, None, Ok, Err, Option, Result, ◌==◌, nat_lt, slice_index}
 use Rattle.dl_nas.specs.declared.elements.Seen.{Seen}
 use Rattle.dl_nas.specs.declared.elements.Found.{Found}
 use Rattle.dl_nas.specs.declared.elements.ElementFault.{ElementFault}
 use Rattle.dl_nas.specs.declared.content.Content.{Content}
 use Rattle.dl_nas.specs.declared.content.Content.TheVariants.{EstablishmentAccept, EstablishmentReject, ModificationReject, ModificationCommand, ReleaseReject, ReleaseCommand, Status, EstablishmentRequest, ModificationRequest, ReleaseRequest}
+use Rattle.dl_nas.specs.declared.container.Caused.{Caused}
 use Rattle.dl_nas.specs.declared.container.Caused.TheVariants as caused
+use Rattle.dl_nas.specs.declared.container.Returned.{Returned}
 use Rattle.dl_nas.specs.declared.container.Returned.TheVariants as returned
 use Rattle.dl_nas.specs.declared.container.Form.{Form}
 use Rattle.dl_nas.specs.declared.container.Form.TheVariants.{Accept, Cause, Command, Request}
-use Rattle.dl_nas.specs.declared.container.Fixed.{Fixed}
-use Rattle.dl_nas.specs.declared.container.Fixed.TheVariants as fixed
 use Rattle.dl_nas.specs.declared.container.Inner.{Inner}
 use Rattle.dl_nas.specs.declared.container.ContainerFault.{ContainerFault}
 use Rattle.dl_nas.specs.declared.container.ContainerFault.TheVariants.{Element, Cut, NotSessionManagement, UnlistedType}
@@ -43,33 +43,30 @@ fixed_size (Cause c) ys = 1
 fixed_size Command ys = 0
 fixed_size (Request r) ys = length ys
 
--- What is kept of the fixed part.
-abbrev pub fixed_of : Form → List ℕ → Fixed
-fixed_of Accept ys = fixed.Accept
-fixed_of (Cause c) ys = fixed.Cause c (slice_index ys 0)
-fixed_of Command ys = fixed.Command
-fixed_of (Request r) ys = fixed.Request r
-
 -- What the reader of a fixed part answers: the rest of the octets and its place.
 abbrev pub Passed : Form → List ℕ → ℕ → List ℕ → ℕ → Type 0
 Passed k ys place rest at = (rest ≡ drop (fixed_size k ys) ys) × (at ≡ place + fixed_size k ys) × (fixed_size k ys ≤ length ys)
 
--- Or the fixed part is cut, one past the container's last octet.
-abbrev pub FixedCut : Form → List ℕ → ℕ → ContainerFault → Type 0
-FixedCut k ys place e = (length ys < fixed_size k ys) × (e ≡ Cut (place + length ys))
+-- The message with a cause octet, by its type.
+abbrev pub caused_of : Caused → ℕ → Option ℕ → Content
+caused_of caused.EstablishmentReject c t = EstablishmentReject c t
+caused_of caused.ModificationReject c t = ModificationReject c t
+caused_of caused.ReleaseReject c t = ReleaseReject c t
+caused_of caused.ReleaseCommand c t = ReleaseCommand c t
+caused_of caused.Status c t = Status c t
 
--- The content, from the fixed part and the timer octet of the elements.
-abbrev pub content_of : Fixed → Option ℕ → Content
-content_of fixed.Accept t = EstablishmentAccept t
-content_of (fixed.Cause caused.EstablishmentReject c) t = EstablishmentReject c t
-content_of (fixed.Cause caused.ModificationReject c) t = ModificationReject c t
-content_of (fixed.Cause caused.ReleaseReject c) t = ReleaseReject c t
-content_of (fixed.Cause caused.ReleaseCommand c) t = ReleaseCommand c t
-content_of (fixed.Cause caused.Status c) t = Status c t
-content_of fixed.Command t = ModificationCommand t
-content_of (fixed.Request returned.Establishment) t = EstablishmentRequest
-content_of (fixed.Request returned.Modification) t = ModificationRequest
-content_of (fixed.Request returned.Release) t = ReleaseRequest
+-- The handset's own message, sent back.
+abbrev pub returned_of : Returned → Content
+returned_of returned.Establishment = EstablishmentRequest
+returned_of returned.Modification = ModificationRequest
+returned_of returned.Release = ReleaseRequest
+
+-- The content, from the form, the fixed part at the front of `ys` and the timer octet of the elements.
+abbrev pub content_of : Form → List ℕ → Option ℕ → Content
+content_of Accept ys t = EstablishmentAccept t
+content_of (Cause c) ys t = caused_of c (slice_index ys 0) t
+content_of Command ys t = ModificationCommand t
+content_of (Request r) ys t = returned_of r
 
 -- The octet of an element, where the element was seen.
 abbrev pub octet_of : Option Seen → Option ℕ
@@ -82,15 +79,15 @@ inner_lifted (Ok f) k = Ok (k f)
 inner_lifted (Err e) k = Err (Element e)
 
 -- What a container says whose elements were read.
-abbrev pub inner_of : ℕ → ℕ → Fixed → Found → Inner
-inner_of identity pti x f = record { identity = identity; pti = pti; content = content_of x (octet_of f.timer) }
+abbrev pub inner_of : ℕ → ℕ → Form → List ℕ → Found → Inner
+inner_of identity pti k ys f = record { identity = identity; pti = pti; content = content_of k ys (octet_of f.timer) }
 
 -- Behind the header, by the form of the type.
 abbrev pub body_of : ℕ → ℕ → Option Form → List ℕ → ℕ → Result Inner ContainerFault
 body_of identity pti None ys place = Err (UnlistedType (place + 3))
 body_of identity pti (Some k) ys place =
     cond (nat_lt (length ys) (fixed_size k ys)) (Err (Cut (place + 4 + length ys)))
-    (inner_lifted (walked (drop (fixed_size k ys) ys) 0 (place + 4 + fixed_size k ys) nothing) (inner_of identity pti (fixed_of k ys)))
+    (inner_lifted (walked (drop (fixed_size k ys) ys) 0 (place + 4 + fixed_size k ys) nothing) (inner_of identity pti k ys))
 
 -- What the container says, or what is wrong with it.
 abbrev pub container_of : List ℕ → ℕ → Result Inner ContainerFault

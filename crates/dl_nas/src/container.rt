@@ -1,11 +1,11 @@
 // The payload container: a header, a fixed part by the type, and elements.
-ghost use Rattle.std.specs.Prelude.{◌≡◌, ◌+◌, ◌^◌, ◌<◌, length, MatchResult};
+ghost use Rattle.std.specs.Prelude.{◌≡◌, ◌<◌, ◌≤◌, length, MatchOption};
 ghost use Rattle.dl_nas.specs.declared.container.ContainerFault.TheVariants.{Element};
-ghost use Rattle.dl_nas.specs.Container.{form_of, fixed_of, Passed, FixedCut, content_of, octet_of, container_of, container_number, container_place};
+ghost use Rattle.dl_nas.specs.Container.{form_of, fixed_size, Passed, caused_of, returned_of, content_of, container_of, container_number, container_place};
 
 use crate::content::Content;
-use crate::elements::{ElementFault, Seen, walk};
-use crate::transport::Payload;
+use crate::elements::{ElementFault, walk};
+use crate::part::Part;
 
 // What is wrong with a payload container, and the place of the fault.
 #[derive(Clone, Copy, PartialEq, Eq, Debug)]
@@ -36,8 +36,7 @@ impl ContainerFault {
         match *self {
             ContainerFault::Element(fault) => fault.number(),
             ContainerFault::Cut(_) => 15,
-            ContainerFault::NotSessionManagement(_) => 17,
-            ContainerFault::UnlistedType(_) => 17,
+            ContainerFault::NotSessionManagement(_) | ContainerFault::UnlistedType(_) => 17,
         }
     }
 
@@ -47,9 +46,9 @@ impl ContainerFault {
     {
         match *self {
             ContainerFault::Element(fault) => fault.place(),
-            ContainerFault::Cut(place) => place,
-            ContainerFault::NotSessionManagement(place) => place,
-            ContainerFault::UnlistedType(place) => place,
+            ContainerFault::Cut(place)
+            | ContainerFault::NotSessionManagement(place)
+            | ContainerFault::UnlistedType(place) => place,
         }
     }
 }
@@ -81,15 +80,6 @@ pub(crate) enum Form {
     Request(Returned),
 }
 
-// A fixed part that was read.
-#[derive(Clone, Copy)]
-pub(crate) enum Fixed {
-    Accept,
-    Cause(Caused, u8),
-    Command,
-    Request(Returned),
-}
-
 // What a container says.
 #[derive(Clone, Copy)]
 pub(crate) struct Inner {
@@ -116,139 +106,98 @@ fn form_of(message_type: u8) -> Option<Form>
     }
 }
 
-// The content, from the fixed part and the timer octet of the elements.
-fn content_of(fixed: Fixed, timer: Option<u8>) -> Content
-    ensures { result ≡ content_of fixed timer }
-{
-    match fixed {
-        Fixed::Accept => Content::EstablishmentAccept { timer },
-        Fixed::Cause(Caused::EstablishmentReject, cause) => Content::EstablishmentReject {
-            cause,
-            timer,
-        },
-        Fixed::Cause(Caused::ModificationReject, cause) => Content::ModificationReject {
-            cause,
-            timer,
-        },
-        Fixed::Cause(Caused::ReleaseReject, cause) => Content::ReleaseReject { cause, timer },
-        Fixed::Cause(Caused::ReleaseCommand, cause) => Content::ReleaseCommand { cause, timer },
-        Fixed::Cause(Caused::Status, cause) => Content::Status { cause, timer },
-        Fixed::Command => Content::ModificationCommand { timer },
-        Fixed::Request(Returned::Establishment) => Content::EstablishmentRequest,
-        Fixed::Request(Returned::Modification) => Content::ModificationRequest,
-        Fixed::Request(Returned::Release) => Content::ReleaseRequest,
-    }
-}
-
-// The octet of an element, where the element was seen.
-pub(crate) fn octet_of(seen: Option<Seen>) -> Option<u8>
-    ensures { result ≡ octet_of seen }
-{
-    match seen {
-        Some(seen) => Some(seen.octet),
-        None => None,
-    }
-}
-
-// A fixed part, and what follows it.
-#[derive(Clone, Copy)]
-struct Opened<'a> {
-    fixed: Fixed,
-    rest: Payload<'a>,
-}
-
-// Passes the fixed part of C2: one octet, a block with a two-octet length, a block with a one-octet length.
-fn pass_blocks<'a>(part: Payload<'a>) -> Result<Payload<'a>, ContainerFault>
-    requires { part.place + length part.octets.now < 2 ^ 64 }
-    ensures { MatchResult result
-        (λ p. Passed Form.Accept part.entry.octets.now part.entry.place p.octets.now p.place)
-        (λ e. FixedCut Form.Accept part.entry.octets.now part.entry.place e) }
-{
-    let Payload { octets, place } = part;
-    let end = place + octets.len();
-    let [_, high, low, after @ ..] = octets else {
-        return Err(ContainerFault::Cut(end));
-    };
-    let first = 256 * usize::from(*high) + usize::from(*low);
-    if first >= after.len() {
-        return Err(ContainerFault::Cut(end));
-    }
-    let size = 4 + first + usize::from(after[first]);
-    if size > octets.len() {
-        return Err(ContainerFault::Cut(end));
-    }
-    Ok(Payload {
-        octets: &octets[size..],
-        place: place + size,
-    })
-}
-
-// Reads the fixed part of a form.
-fn open_fixed<'a>(form: Form, part: Payload<'a>) -> Result<Opened<'a>, ContainerFault>
-    requires { part.place + length part.octets.now < 2 ^ 64 }
-    ensures { MatchResult result
-        (λ o. (o.fixed ≡ fixed_of form part.entry.octets.now)
-        × Passed form part.entry.octets.now part.entry.place o.rest.octets.now o.rest.place)
-        (λ e. FixedCut form part.entry.octets.now part.entry.place e) }
-{
-    let Payload { octets, place } = part;
-    let end = place + octets.len();
-    match form {
-        Form::Accept => Ok(Opened {
-            fixed: Fixed::Accept,
-            rest: pass_blocks(part)?,
-        }),
-        Form::Cause(caused) => {
-            let [cause, after @ ..] = octets else {
-                return Err(ContainerFault::Cut(end));
-            };
-            Ok(Opened {
-                fixed: Fixed::Cause(caused, *cause),
-                rest: Payload {
-                    octets: after,
-                    place: place + 1,
-                },
-            })
+impl Caused {
+    // The message of the type, with its cause octet and the timer octet of its elements.
+    fn content(self, cause: u8, timer: Option<u8>) -> Content
+        ensures { result ≡ caused_of self cause timer }
+    {
+        match self {
+            Caused::EstablishmentReject => Content::EstablishmentReject { cause, timer },
+            Caused::ModificationReject => Content::ModificationReject { cause, timer },
+            Caused::ReleaseReject => Content::ReleaseReject { cause, timer },
+            Caused::ReleaseCommand => Content::ReleaseCommand { cause, timer },
+            Caused::Status => Content::Status { cause, timer },
         }
-        Form::Command => Ok(Opened {
-            fixed: Fixed::Command,
-            rest: part,
-        }),
-        Form::Request(returned) => Ok(Opened {
-            fixed: Fixed::Request(returned),
-            rest: Payload {
-                octets: &octets[octets.len()..],
-                place: end,
-            },
-        }),
+    }
+}
+
+impl Returned {
+    // The message of the type.
+    fn content(self) -> Content
+        ensures { result ≡ returned_of self }
+    {
+        match self {
+            Returned::Establishment => Content::EstablishmentRequest,
+            Returned::Modification => Content::ModificationRequest,
+            Returned::Release => Content::ReleaseRequest,
+        }
+    }
+}
+
+// How many octets the fixed part of C2 takes: one octet, a block with a two-octet length, a block with a one-octet
+// length; none where a length is missing.
+fn blocks_size(octets: &[u8]) -> Option<usize>
+    ensures { MatchOption result (length octets.now < fixed_size Form.Accept octets.now)
+        (λ n. n ≡ fixed_size Form.Accept octets.now) }
+{
+    let [_, high, low, after @ ..] = octets else {
+        return None;
+    };
+    let first = usize::from(u16::from_be_bytes([*high, *low]));
+    let second = after.get(first)?;
+    Some(4 + first + usize::from(*second))
+}
+
+impl Form {
+    // What follows the fixed part, where that is whole.
+    fn behind<'a>(self, part: Part<'a>) -> Option<Part<'a>>
+        ensures { MatchOption result (length part.entry.octets.now < fixed_size self part.entry.octets.now)
+            (λ p. Passed self part.entry.octets.now part.entry.place p.octets.now p.place) }
+    {
+        let size = match self {
+            Form::Accept => blocks_size(part.octets)?,
+            Form::Cause(_) => 1,
+            Form::Command => 0,
+            Form::Request(_) => part.octets.len(),
+        };
+        part.past(size)
+    }
+
+    // The content, from the fixed part at the front of the octets and the timer octet of the elements.
+    fn content(self, octets: &[u8], timer: Option<u8>) -> Content
+        requires { fixed_size self octets.now ≤ length octets.now }
+        ensures { result ≡ content_of self octets.now timer }
+    {
+        match self {
+            Form::Accept => Content::EstablishmentAccept { timer },
+            Form::Cause(caused) => caused.content(octets[0], timer),
+            Form::Command => Content::ModificationCommand { timer },
+            Form::Request(returned) => returned.content(),
+        }
     }
 }
 
 // Reads a payload container.
-pub(crate) fn read_container(part: Payload<'_>) -> Result<Inner, ContainerFault>
-    requires { part.place + length part.octets.now < 2 ^ 64 }
+pub(crate) fn read_container(part: Part<'_>) -> Result<Inner, ContainerFault>
     ensures { result ≡ container_of part.entry.octets.now part.entry.place }
 {
-    let [0x2E, identity, pti, message_type, rest @ ..] = part.octets else {
+    let [0x2E, identity, pti, message_type, octets @ ..] = part.octets else {
         return Err(match part.octets {
-            [] | [0x2E, ..] => ContainerFault::Cut(part.place + part.octets.len()),
+            [] | [0x2E, ..] => ContainerFault::Cut(part.end()),
             _ => ContainerFault::NotSessionManagement(part.place),
         });
     };
-    let Some(form) = form_of(*message_type) else {
-        return Err(ContainerFault::UnlistedType(part.place + 3));
+    let form = form_of(*message_type).ok_or(ContainerFault::UnlistedType(part.place + 3))?;
+    let body = Part {
+        octets,
+        place: part.place + 4,
     };
-    let opened = open_fixed(
-        form,
-        Payload {
-            octets: rest,
-            place: part.place + 4,
-        },
-    )?;
-    let found = walk(opened.rest.octets, opened.rest.place)?;
+    let elements = form.behind(body).ok_or(ContainerFault::Cut(part.end()))?;
+    let found = walk(elements)?;
+    let timer = found.timer.map(|seen| seen.octet);
     Ok(Inner {
         identity: *identity,
         pti: *pti,
-        content: content_of(opened.fixed, octet_of(found.timer)),
+        content: form.content(octets, timer),
     })
 }

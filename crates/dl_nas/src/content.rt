@@ -42,11 +42,11 @@ impl Content {
         ensures { result ≡ cause_of self.now }
     {
         match *self {
-            Content::EstablishmentReject { cause, .. } => Some(cause),
-            Content::ModificationReject { cause, .. } => Some(cause),
-            Content::ReleaseReject { cause, .. } => Some(cause),
-            Content::ReleaseCommand { cause, .. } => Some(cause),
-            Content::Status { cause, .. } => Some(cause),
+            Content::EstablishmentReject { cause, .. }
+            | Content::ModificationReject { cause, .. }
+            | Content::ReleaseReject { cause, .. }
+            | Content::ReleaseCommand { cause, .. }
+            | Content::Status { cause, .. } => Some(cause),
             _ => None,
         }
     }
@@ -56,13 +56,13 @@ impl Content {
         ensures { result ≡ timer_of self.now }
     {
         match *self {
-            Content::EstablishmentAccept { timer } => timer,
-            Content::EstablishmentReject { timer, .. } => timer,
-            Content::ModificationReject { timer, .. } => timer,
-            Content::ModificationCommand { timer } => timer,
-            Content::ReleaseReject { timer, .. } => timer,
-            Content::ReleaseCommand { timer, .. } => timer,
-            Content::Status { timer, .. } => timer,
+            Content::EstablishmentAccept { timer }
+            | Content::EstablishmentReject { timer, .. }
+            | Content::ModificationReject { timer, .. }
+            | Content::ModificationCommand { timer }
+            | Content::ReleaseReject { timer, .. }
+            | Content::ReleaseCommand { timer, .. }
+            | Content::Status { timer, .. } => timer,
             Content::EstablishmentRequest
             | Content::ModificationRequest
             | Content::ReleaseRequest => None,

@@ -1,6 +1,8 @@
 // The optional elements of a layer: a walk from a given octet to the layer's end.
-ghost use Rattle.std.specs.Prelude.{◌≡◌, ◌+◌, ◌^◌, ◌<◌, ◌≤◌, length, None};
+ghost use Rattle.std.specs.Prelude.{◌≡◌, ◌+◌, ◌^◌, ◌<◌, ◌≤◌, length, slice_index, None};
 ghost use Rattle.dl_nas.specs.Elements.{extent as extentOf, noted as noted_in, nothing, walked, Extent, fault_at, element_number, element_place};
+
+use crate::part::Part;
 
 // An octet that an element holds, and the place of the element's identifier.
 #[derive(Clone, Copy)]
@@ -35,8 +37,7 @@ impl ElementFault {
     {
         match *self {
             ElementFault::Cut(_) => 15,
-            ElementFault::ReservedIdentifier(_) => 16,
-            ElementFault::TimerLength(_) => 16,
+            ElementFault::ReservedIdentifier(_) | ElementFault::TimerLength(_) => 16,
         }
     }
 
@@ -45,88 +46,105 @@ impl ElementFault {
         ensures { result ≡ element_place self.now }
     {
         match *self {
-            ElementFault::Cut(place) => place,
-            ElementFault::ReservedIdentifier(place) => place,
-            ElementFault::TimerLength(place) => place,
+            ElementFault::Cut(place)
+            | ElementFault::ReservedIdentifier(place)
+            | ElementFault::TimerLength(place) => place,
         }
     }
 }
 
-// How many octets of `after` belong to the element whose identifier stands at `place`.
-fn extent(identifier: u8, place: usize, after: &[u8]) -> Result<usize, ElementFault>
-    requires { place + length after.now + 1 < 2 ^ 64 }
-    ensures { Extent identifier place after.now result }
-{
-    let size = match identifier {
-        0x00..=0x0F => return Err(ElementFault::ReservedIdentifier(place)),
-        0x80..=0xFF => 0,
-        0x12 | 0x56 | 0x58 | 0x59 => 1,
-        0x70..=0x7F => match after {
-            [high, low, ..] => 2 + 256 * usize::from(*high) + usize::from(*low),
-            _ => return Err(ElementFault::Cut(place + 1 + after.len())),
-        },
-        _ => match after {
-            [length, ..] => {
-                if identifier == 0x37 && *length != 1 {
-                    return Err(ElementFault::TimerLength(place + 1));
-                }
-                1 + usize::from(*length)
-            }
-            [] => return Err(ElementFault::Cut(place + 1)),
-        },
-    };
-    if size > after.len() {
-        return Err(ElementFault::Cut(place + 1 + after.len()));
-    }
-    Ok(size)
+// An element whose identifier was read: the place of the identifier, and what follows it in the layer.
+#[derive(Clone, Copy)]
+struct Begun<'a> {
+    identifier: u8,
+    place: usize,
+    after: &'a [u8],
+    ghost fits: { place + length after.now + 1 < 2 ^ 64 },
 }
 
-// What is found, with the element whose identifier stands at `place`: the first of a repeated element counts.
-fn noted(found: Found, identifier: u8, place: usize, after: &[u8]) -> Found
-    requires right { fault_at identifier place after.now ≡ None }
-    requires whole { extentOf identifier after.now ≤ length after.now }
-    ensures { result ≡ noted_in found identifier place after.now }
-{
-    let mut found = found;
-    match (identifier, after) {
-        (0x37, [_, octet, ..]) if found.timer.is_none() => {
-            found.timer = Some(Seen {
-                octet: *octet,
-                place,
-            });
+impl Begun<'_> {
+    // How many octets behind the identifier belong to the element.
+    fn extent(&self) -> Result<usize, ElementFault>
+        ensures { Extent self.now.identifier self.now.place self.now.after.now result }
+    {
+        let end = self.place + 1 + self.after.len();
+        let size = match self.identifier {
+            0x00..=0x0F => return Err(ElementFault::ReservedIdentifier(self.place)),
+            0x80..=0xFF => 0,
+            0x12 | 0x56 | 0x58 | 0x59 => 1,
+            0x70..=0x7F => match self.after {
+                [high, low, ..] => 2 + usize::from(u16::from_be_bytes([*high, *low])),
+                _ => return Err(ElementFault::Cut(end)),
+            },
+            _ => match self.after {
+                [length, ..] if self.identifier == 0x37 && *length != 1 => return Err(
+                    ElementFault::TimerLength(self.place + 1),
+                ),
+                [length, ..] => 1 + usize::from(*length),
+                [] => return Err(ElementFault::Cut(end)),
+            },
+        };
+        if size > self.after.len() {
+            return Err(ElementFault::Cut(end));
         }
-        (0x58, [octet, ..]) if found.cause.is_none() => {
-            found.cause = Some(Seen {
-                octet: *octet,
-                place,
-            });
-        }
-        (0x12, [octet, ..]) if found.identity.is_none() => {
-            found.identity = Some(Seen {
-                octet: *octet,
-                place,
-            });
-        }
-        _ => {}
+        Ok(size)
     }
-    found
+
+    // An octet behind the identifier, as it is kept.
+    fn seen(&self, index: usize) -> Seen
+        requires { index < length self.now.after.now }
+        ensures octet { result.octet ≡ slice_index self.now.after.now index }
+        ensures place { result.place ≡ self.now.place }
+    {
+        Seen {
+            octet: self.after[index],
+            place: self.place,
+        }
+    }
+
+    // What is found, with this element: the first of a repeated element counts.
+    fn noted(&self, found: Found) -> Found
+        requires right { fault_at self.now.identifier self.now.place self.now.after.now ≡ None }
+        requires whole { extentOf self.now.identifier self.now.after.now ≤ length self.now.after.now }
+        ensures { result ≡ noted_in found self.now.identifier self.now.place self.now.after.now }
+    {
+        match self.identifier {
+            0x37 => Found {
+                timer: found.timer.or(Some(self.seen(1))),
+                ..found
+            },
+            0x58 => Found {
+                cause: found.cause.or(Some(self.seen(0))),
+                ..found
+            },
+            0x12 => Found {
+                identity: found.identity.or(Some(self.seen(0))),
+                ..found
+            },
+            _ => found,
+        }
+    }
 }
 
-// Reads the elements of a layer that ends with `octets`, of which the first has the place `start`.
-pub(crate) fn walk(octets: &[u8], start: usize) -> Result<Found, ElementFault>
-    requires { start + length octets.now < 2 ^ 64 }
-    ensures { result ≡ walked octets.now 0 start nothing }
+// Reads the elements of a layer, of which `part` is what is left.
+pub(crate) fn walk(part: Part<'_>) -> Result<Found, ElementFault>
+    ensures { result ≡ walked part.entry.octets.now 0 part.entry.place nothing }
 {
     let mut found = Found {
         timer: None,
         cause: None,
         identity: None,
     };
-    let mut rest = octets;
-    let mut place = start;
+    let mut rest = part.octets;
+    let mut place = part.place;
     while let [identifier, after @ ..] = rest {
-        let size = extent(*identifier, place, after)?;
-        found = noted(found, *identifier, place, after);
+        let element = Begun {
+            identifier: *identifier,
+            place,
+            after,
+        };
+        let size = element.extent()?;
+        found = element.noted(found);
         place += 1 + size;
         rest = &after[size..];
     }

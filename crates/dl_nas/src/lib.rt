@@ -6,4 +6,5 @@ pub mod content;
 pub mod elements;
 pub mod laws;
 pub mod message;
+mod part;
 pub mod transport;

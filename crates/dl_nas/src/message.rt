@@ -4,7 +4,7 @@ ghost use Rattle.dl_nas.specs.declared.message.MessageFault.TheVariants.{Transpo
 ghost use Rattle.dl_nas.specs.Laws.{AcceptsFormat};
 ghost use Rattle.dl_nas.specs.Message.{received, agreed, number_of, layer_of, place_of, worked_received};
 
-use crate::container::{ContainerFault, Inner, octet_of, read_container};
+use crate::container::{ContainerFault, Inner, read_container};
 pub use crate::content::Content;
 use crate::elements::Found;
 use crate::transport::{TransportFault, read_outer};
@@ -92,9 +92,7 @@ pub struct Received {
 fn agree(found: Found, inner: Inner, end: usize) -> Result<Received, MessageFault>
     ensures { result ≡ agreed found inner end }
 {
-    let Some(outer) = found.identity else {
-        return Err(MessageFault::Identity(end));
-    };
+    let outer = found.identity.ok_or(MessageFault::Identity(end))?;
     if outer.octet != inner.identity {
         return Err(MessageFault::Identity(outer.place));
     }
@@ -102,8 +100,8 @@ fn agree(found: Found, inner: Inner, end: usize) -> Result<Received, MessageFaul
         identity: inner.identity,
         pti: inner.pti,
         content: inner.content,
-        mm_cause: octet_of(found.cause),
-        outer_timer: octet_of(found.timer),
+        mm_cause: found.cause.map(|seen| seen.octet),
+        outer_timer: found.timer.map(|seen| seen.octet),
     })
 }
 

@@ -4,13 +4,7 @@ ghost use Rattle.dl_nas.specs.declared.transport.TransportFault.TheVariants.{Ele
 ghost use Rattle.dl_nas.specs.Transport.{outer_of, payload_of, transport_number, transport_place};
 
 use crate::elements::{ElementFault, Found, walk};
-
-// A part of the received octets, and the place of its first octet in the whole message.
-#[derive(Clone, Copy)]
-pub struct Payload<'a> {
-    pub octets: &'a [u8],
-    pub place: usize,
-}
+use crate::part::Part;
 
 // What is wrong with the outer layer, and the place of the fault.
 #[derive(Clone, Copy, PartialEq, Eq, Debug)]
@@ -49,8 +43,7 @@ impl TransportFault {
     {
         match *self {
             TransportFault::Element(fault) => fault.place(),
-            TransportFault::Cut(place) => place,
-            TransportFault::Beginning(place) => place,
+            TransportFault::Cut(place) | TransportFault::Beginning(place) => place,
         }
     }
 }
@@ -59,7 +52,7 @@ impl TransportFault {
 #[derive(Clone, Copy)]
 pub(crate) struct Outer<'a> {
     pub(crate) found: Found,
-    pub(crate) payload: Payload<'a>,
+    pub(crate) payload: Part<'a>,
 }
 
 // Reads the outer layer whole.
@@ -85,15 +78,18 @@ pub(crate) fn read_outer(message: &[u8]) -> Result<Outer<'_>, TransportFault>
     let [high, low, rest @ ..] = rest else {
         return Err(TransportFault::Cut(message.len()));
     };
-    let size = 256 * usize::from(*high) + usize::from(*low);
-    if size > rest.len() {
-        return Err(TransportFault::Cut(message.len()));
-    }
-    let found = walk(&rest[size..], 6 + size)?;
+    let size = usize::from(u16::from_be_bytes([*high, *low]));
+    let (payload, elements) = rest
+        .split_at_checked(size)
+        .ok_or(TransportFault::Cut(message.len()))?;
+    let found = walk(Part {
+        octets: elements,
+        place: 6 + size,
+    })?;
     Ok(Outer {
         found,
-        payload: Payload {
-            octets: &rest[0..size],
+        payload: Part {
+            octets: payload,
             place: 6,
         },
     })

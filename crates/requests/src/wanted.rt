@@ -28,7 +28,7 @@ impl Wanted {
     ) -> Result<Wanted, Question>
         ensures { told_wanted result ≡ wanted_of request_type (option_map (λ x. x.now) slice.entry) (option_map (λ x. x.now) name.entry) }
     {
-        let Some(request_type) = RequestType::from_number(request_type) else {
+        let Ok(request_type) = RequestType::try_from(request_type) else {
             return Err(Question::RequestType);
         };
         if request_type.is_emergency() && (slice.is_some() || name.is_some()) {

@@ -1,7 +1,7 @@
 -- Reading a number digit by digit, with an early refusal, is reading it whole.
-use Rattle.std.proofs.Common.{◌≡◌, ℕ, ◌+◌, ◌-◌, ◌*◌, ◌^◌, ◌<◌, ◌≤◌, false, eqb, List, [], ◌∷◌, length, get_or, drop, Some, None, Option, sym, refl, ◌∙◌, arith}
-use Rattle.std.proofs.lemmas.List.{at_drop_more, at_drop_all}
-use Rattle.std.proofs.lemmas.Bool.{cond_both, lt-ltb}
+use Rattle.std.proofs.Common.{◌≡◌, ℕ, ◌+◌, ◌-◌, ◌*◌, ◌<◌, ◌≤◌, eqb, List, [], ◌∷◌, length, get_or, drop, Some, None, Option, refl, ◌∙◌, arith}
+use Rattle.std.proofs.lemmas.List.{at_drop_more}
+use Rattle.std.proofs.lemmas.Bool.{cond_both}
 use Rattle.std.proofs.lemmas.Bool.Decides.{nat_tests}
 use Rattle.script.specs.Number.{spelled_behind, fitting_behind, extended, numeral}
 
@@ -23,10 +23,3 @@ step_on word i n h = at_drop_more (fitting_behind n) word i 0 h ∙ one_digit n 
 
 pub no_number : (word : List ℕ) → fitting_behind 0 word ≡ None → numeral word ≡ None
 no_number word e = cond_both (eqb (length word) 0) None (fitting_behind 0 word) (λ r. r ≡ None) (λ _. refl) (λ _. e)
-
-pub whole_number : (word : List ℕ) (i n : ℕ) → eqb (length word) 0 ≡ false → n < 2 ^ 32 → length word ≤ i
-    → fitting_behind 0 word ≡ fitting_behind n (drop i word) → Some n ≡ numeral word
-whole_number word i n some small end e =
-    let none = at_drop_all (fitting_behind n) word i end in
-    let fits = lt-ltb n (2 ^ 32) small in
-    rw some (sym (e ∙ none ∙ rw fits refl))

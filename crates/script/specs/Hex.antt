@@ -1,7 +1,6 @@
 -- Octets in hexadecimal.
-use Rattle.std.specs.Prelude.{◌≡◌, ℕ, ◌+◌, ◌-◌, ◌*◌, ◌/◌, ◌%◌, cond, ◌&&◌, List, [], ◌∷◌, length, Some, None, Option, ◌==◌, nat_le, nat_lt, slice_index}
-use Rattle.script.specs.declared.hex.HexFault.{HexFault}
-use Rattle.script.specs.declared.hex.HexFault.TheVariants.{NotHex, NoMemory}
+use Rattle.std.specs.List.{flat_map}
+use Rattle.std.specs.Prelude.{ℕ, ◌+◌, ◌-◌, ◌*◌, ◌/◌, ◌%◌, cond, ◌&&◌, List, [], ◌∷◌, length, Some, None, Option, ◌==◌, nat_le, nat_lt, slice_index}
 
 -- the value of a digit: 0 to 9, A to F or a to f
 abbrev pub digit_of : ℕ → Option ℕ
@@ -35,16 +34,14 @@ octets_of (high ∷ (low ∷ rest)) = before (octet_of high low) (octets_of rest
 abbrev pub lone_octet : List ℕ → Option ℕ
 lone_octet word = cond (length word == 2) (octet_of (slice_index word 0) (slice_index word 1)) None
 
--- what a refusal says of the word
-abbrev pub NotRead : List ℕ → HexFault → Type 0
-NotRead word NotHex = octets_of word ≡ None
-NotRead word NoMemory = Unit {0}
-
 -- the capital digit of a value below 16
 abbrev pub capital : ℕ → ℕ
 capital d = cond (nat_lt d 10) (48 + d) (55 + d)
 
--- octets as they are written: two capital digits each
+-- an octet as it is written: two capital digits
+abbrev pub capital_pair : ℕ → List ℕ
+capital_pair o = capital (o / 16) ∷ (capital (o % 16) ∷ [])
+
+-- octets as they are written
 abbrev pub capitals : List ℕ → List ℕ
-capitals [] = []
-capitals (o ∷ os) = capital (o / 16) ∷ (capital (o % 16) ∷ capitals os)
+capitals os = flat_map capital_pair os

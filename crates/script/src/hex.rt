@@ -1,36 +1,17 @@
 // Octets in hexadecimal: digits in either case are read, capitals are written.
-ghost use Rattle.std.specs.Prelude.{◌≡◌, ◌<◌, Some, None, MatchResult};
-ghost use Rattle.script.specs.declared.hex.HexFault.TheVariants.{NoMemory};
-ghost use Rattle.script.specs.Hex.{digit_of, octet_of, octets_of, lone_octet, NotRead, capital, capitals};
+ghost use Rattle.std.specs.Prelude.{◌≡◌, ◌<◌, Some, IfOk};
+ghost use Rattle.std.specs.Option.{option_map};
+ghost use Rattle.script.specs.Hex.{digit_of, octet_of, octets_of, lone_octet, capital, capitals};
 
-use std::alloc::{AllocFailed, Global};
+use std::alloc::{AllocError, Global};
 use std::fmt;
-
-// Why octets are not read: the word has another form, or there is no memory.
-#[derive(Clone, Copy, PartialEq, Eq, Debug)]
-pub enum HexFault {
-    NotHex,
-    NoMemory,
-}
-
-impl From<AllocFailed<u8>> for HexFault {
-    ghost from_gives = { λ _ fault. fault ≡ NoMemory };
-
-    fn from(_: AllocFailed<u8>) -> HexFault {
-        HexFault::NoMemory
-    }
-}
 
 // The value of a digit.
 pub fn digit(character: u8) -> Option<u8>
     ensures { result ≡ digit_of character }
 {
-    match character {
-        b'0'..=b'9' => Some(character - b'0'),
-        b'A'..=b'F' => Some(character - b'A' + 10),
-        b'a'..=b'f' => Some(character - b'a' + 10),
-        _ => None,
-    }
+    let value = char::from(character).to_digit(16)?;
+    Some(value as u8)
 }
 
 // The octet of two digits.
@@ -50,24 +31,20 @@ pub fn octet(word: &[u8]) -> Option<u8>
     }
 }
 
-// The octets of a word of two digits each.
-pub fn octets(heap: Global, word: &[u8]) -> Result<Vec<u8>, HexFault>
-    ensures { MatchResult result (λ v. octets_of word.now ≡ Some v.items) (NotRead word.now) }
+// The octets of a word of two digits each, where it has that form.
+pub fn octets(heap: Global, word: &[u8]) -> Result<Option<Vec<u8>>, AllocError>
+    ensures { IfOk result (λ read. option_map (λ v. v.items) read ≡ octets_of word.now) }
 {
     let mut found = Vec::new(heap);
     let mut rest = word;
     while let [high, low, after @ ..] = rest {
         let Some(octet) = pair(*high, *low) else {
-            return Err(HexFault::NotHex);
+            return Ok(None);
         };
         found.push(octet)?;
         rest = after;
     }
-    if rest.is_empty() {
-        Ok(found)
-    } else {
-        Err(HexFault::NotHex)
-    }
+    Ok(rest.is_empty().then_some(found))
 }
 
 // The capital digit of a value below 16.

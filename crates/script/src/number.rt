@@ -6,12 +6,8 @@ ghost use Rattle.script.specs.Number.{extended, numeral};
 fn with_digit(value: u32, character: u8) -> Option<u32>
     ensures { result ≡ extended value character }
 {
-    match character {
-        b'0'..=b'9' => value
-            .checked_mul(10)?
-            .checked_add(u32::from(character - b'0')),
-        _ => None,
-    }
+    let digit = char::from(character).to_digit(10)?;
+    value.checked_mul(10)?.checked_add(digit)
 }
 
 // The number of a word of decimal digits, where it is below 2^32.
@@ -22,8 +18,8 @@ pub fn number(word: &[u8]) -> Option<u32>
         return None;
     }
     let mut value = 0;
-    for i in 0..word.len() {
-        value = with_digit(value, word[i])?;
+    for character in word {
+        value = with_digit(value, *character)?;
     }
     Some(value)
 }

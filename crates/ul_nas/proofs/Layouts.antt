@@ -1,7 +1,7 @@
 -- The written form, octet by octet.
-use Rattle.std.proofs.Common.{◌≡◌, ℕ, ◌+◌, List, [], ◌∷◌, ◌++◌, length, refl}
+use Rattle.std.proofs.Common.{◌≡◌, ℕ, ◌+◌, List, ◌∷◌, ◌++◌, length, refl}
 use Rattle.ul_nas.specs.Message.{Carried, establishment_request, modification_request, release_request, modification_complete, release_complete, status, message, message_type_of}
-use Rattle.ul_nas.specs.Format.{fixed_part, container, frame, elements, encoding}
+use Rattle.ul_nas.specs.Format.{fixed_part, elements, encoding}
 
 -- what follows the message type
 abbrev pub behind : ℕ → Carried → List ℕ
@@ -18,21 +18,3 @@ layout_is i p release_request = refl
 layout_is i p modification_complete = refl
 layout_is i p release_complete = refl
 layout_is i p status = refl
-
--- the frame: the container's length takes one octet
-pub frame_is : (i p : ℕ) (c : Carried)
-    → (0x7E ∷ (0x00 ∷ (0x67 ∷ (0x01 ∷ (0x00 ∷ ((4 + length (fixed_part c)) ∷ [])))))) ++ (container i p c ++ (0x12 ∷ (i ∷ []))) ≡ frame i p c
-frame_is i p (establishment_request t s n) = refl
-frame_is i p modification_request = refl
-frame_is i p release_request = refl
-frame_is i p modification_complete = refl
-frame_is i p release_complete = refl
-frame_is i p status = refl
-
-pub frame_length : (i p : ℕ) (c : Carried) → length (frame i p c) ≡ 12 + length (fixed_part c)
-frame_length i p (establishment_request t s n) = refl
-frame_length i p modification_request = refl
-frame_length i p release_request = refl
-frame_length i p modification_complete = refl
-frame_length i p release_complete = refl
-frame_length i p status = refl

@@ -1,5 +1,5 @@
 -- What writing answers, and what the buffer holds afterwards.
-use Rattle.std.specs.Prelude.{ℕ, ◌<◌, cond, List, ◌++◌, length, drop, Some, None, Ok, Err, Option, Result, nat_le}
+use Rattle.std.specs.Prelude.{ℕ, cond, List, ◌++◌, length, drop, Some, None, Ok, Err, Option, Result, nat_le}
 use Rattle.ul_nas.specs.declared.write.WriteRefusal.{WriteRefusal}
 use Rattle.ul_nas.specs.declared.write.WriteRefusal.TheVariants.{NotLawful, Short}
 use Rattle.ul_nas.specs.Message.{Message}
@@ -9,11 +9,6 @@ use Rattle.ul_nas.specs.Format.{encoding}
 -- a buffer with octets at its front, the others as they were before
 abbrev pub over : List ℕ → List ℕ → List ℕ
 over octets before = octets ++ drop (length octets) before
-
--- contents whose length one octet can tell
-abbrev pub Fitting : Option (List ℕ) → Type 0
-Fitting None = Unit {0}
-Fitting (Some octets) = length octets < 256
 
 -- an unlawful message is refused first, then a buffer that is too short
 abbrev pub write_answer : Message → ℕ → Result ℕ WriteRefusal

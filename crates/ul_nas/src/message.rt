@@ -1,29 +1,44 @@
 // What an uplink message says, and which messages are lawful.
 ghost use Rattle.std.specs.Prelude.{◌≡◌, ◌+◌};
 ghost use Rattle.std.specs.Option.{option_map};
-ghost use Rattle.ul_nas.specs.declared.message.Content.TheVariants.{EstablishmentRequest};
+ghost use Rattle.std.specs.Result.{result_ok};
 ghost use Rattle.ul_nas.specs.Message.{carried, viewed, request_number, request_type_of, emergency, message_type_of};
 ghost use Rattle.ul_nas.specs.Lawful.{lawful_slice, lawful_name, lawful_elements, lawful_pti, lawful};
 
-// The request type (9.11.3.47) of an establishment request.
+// The request type (9.11.3.47) of an establishment request, with its number.
 #[derive(Clone, Copy, PartialEq, Debug)]
 pub enum RequestType {
-    Initial,
-    Existing,
-    InitialEmergency,
-    ExistingEmergency,
+    Initial = 1,
+    Existing = 2,
+    InitialEmergency = 3,
+    ExistingEmergency = 4,
+}
+
+// The refusal of a number that no request type has.
+#[derive(Clone, Copy, PartialEq, Debug)]
+pub struct UnknownRequestType;
+
+impl TryFrom<u8> for RequestType {
+    type Error = UnknownRequestType;
+
+    ghost try_from_gives = { λ number r. result_ok r ≡ request_type_of number };
+
+    fn try_from(number: u8) -> Result<RequestType, UnknownRequestType> {
+        match number {
+            1 => Ok(RequestType::Initial),
+            2 => Ok(RequestType::Existing),
+            3 => Ok(RequestType::InitialEmergency),
+            4 => Ok(RequestType::ExistingEmergency),
+            _ => Err(UnknownRequestType),
+        }
+    }
 }
 
 impl RequestType {
     pub fn number(&self) -> u8
         ensures { result ≡ request_number self.now }
     {
-        match *self {
-            RequestType::Initial => 1,
-            RequestType::Existing => 2,
-            RequestType::InitialEmergency => 3,
-            RequestType::ExistingEmergency => 4,
-        }
+        *self as u8
     }
 
     // The octet 8T with the request type T.
@@ -33,25 +48,13 @@ impl RequestType {
         0x80 | self.number()
     }
 
-    pub fn from_number(number: u8) -> Option<RequestType>
-        ensures { result ≡ request_type_of number }
-    {
-        match number {
-            1 => Some(RequestType::Initial),
-            2 => Some(RequestType::Existing),
-            3 => Some(RequestType::InitialEmergency),
-            4 => Some(RequestType::ExistingEmergency),
-            _ => None,
-        }
-    }
-
     pub fn is_emergency(&self) -> bool
         ensures { result ≡ emergency self.now }
     {
-        match *self {
-            RequestType::Initial | RequestType::Existing => false,
-            RequestType::InitialEmergency | RequestType::ExistingEmergency => true,
-        }
+        matches!(
+            *self,
+            RequestType::InitialEmergency | RequestType::ExistingEmergency
+        )
     }
 }
 
@@ -101,35 +104,35 @@ pub struct UplinkMessage<'a> {
 fn slice_is_lawful(slice: Option<&[u8]>) -> bool
     ensures { result ≡ lawful_slice (option_map (λ x. x.now) slice.entry) }
 {
-    match slice {
-        Some(octets) => matches!(octets.len(), 1 | 2 | 4 | 5 | 8),
-        None => true,
-    }
+    slice.is_none_or(|octets| matches!(octets.len(), 1 | 2 | 4 | 5 | 8))
 }
 
 // A name has 1 to 100 octets, or is absent.
 fn name_is_lawful(name: Option<&[u8]>) -> bool
     ensures { result ≡ lawful_name (option_map (λ x. x.now) name.entry) }
 {
-    match name {
-        Some(octets) => matches!(octets.len(), 1..=100),
-        None => true,
-    }
+    name.is_none_or(|octets| matches!(octets.len(), 1..=100))
 }
 
-// An emergency request has neither slice nor name.
-fn elements_are_lawful(establishment: Establishment<'_>) -> bool
-    ensures { result ≡ lawful_elements (carried (EstablishmentRequest establishment.entry)) }
+// The slice and the name of an establishment request; an emergency request has neither.
+fn elements_are_lawful(content: &Content<'_>) -> bool
+    ensures { result ≡ lawful_elements (carried content.now) }
 {
-    let Establishment {
-        request_type,
-        slice,
-        name,
-    } = establishment;
-    if request_type.is_emergency() {
-        slice.is_none() && name.is_none()
-    } else {
-        slice_is_lawful(slice) && name_is_lawful(name)
+    match *content {
+        Content::EstablishmentRequest(
+            Establishment {
+                request_type,
+                slice,
+                name,
+            },
+        ) => {
+            if request_type.is_emergency() {
+                slice.is_none() && name.is_none()
+            } else {
+                slice_is_lawful(slice) && name_is_lawful(name)
+            }
+        }
+        _ => true,
     }
 }
 
@@ -150,11 +153,8 @@ impl<'a> UplinkMessage<'a> {
     pub fn is_lawful(&self) -> bool
         ensures { result ≡ lawful (viewed self.now) }
     {
-        let in_range = matches!(self.identity, 1..=15) && pti_is_lawful(&self.content, self.pti);
-        match self.content {
-            Content::EstablishmentRequest(establishment) => in_range
-                && elements_are_lawful(establishment),
-            _ => in_range,
-        }
+        matches!(self.identity, 1..=15)
+            && pti_is_lawful(&self.content, self.pti)
+            && elements_are_lawful(&self.content)
     }
 }

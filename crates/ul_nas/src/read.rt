@@ -32,16 +32,11 @@ fn read_optional(identifier: u8, octets: &[u8]) -> Option<Part<'_>>
 {
     match octets {
         [first, after @ ..] if *first == identifier => {
-            let [length, after @ ..] = after else {
-                return None;
-            };
-            let size = usize::from(*length);
-            if size > after.len() {
-                return None;
-            }
+            let (size, after) = after.split_first()?;
+            let (content, rest) = after.split_at_checked(usize::from(*size))?;
             Some(Part {
-                content: Some(&after[0..size]),
-                rest: &after[size..],
+                content: Some(content),
+                rest,
             })
         }
         _ => Some(Part {
@@ -71,10 +66,7 @@ fn read_elements(request_type: RequestType, octets: &[u8]) -> Option<Content<'_>
 fn read_type_octet(octet: u8) -> Option<RequestType>
     ensures { result ≡ type_octet_of octet }
 {
-    if octet < 0x80 {
-        return None;
-    }
-    RequestType::from_number(octet - 0x80)
+    RequestType::try_from(octet.checked_sub(0x80)?).ok()
 }
 
 // What follows the message type of an establishment request.
@@ -148,10 +140,7 @@ fn read_message(octets: &[u8]) -> Option<UplinkMessage<'_>>
         pti: *pti,
         content,
     };
-    if !message.is_lawful() {
-        return None;
-    }
-    Some(message)
+    message.is_lawful().then_some(message)
 }
 
 // Reads a message back, or refuses with 19 octets that are not a lawful message in its written form.
@@ -160,8 +149,5 @@ pub fn read(octets: &[u8]) -> Result<UplinkMessage<'_>, NotWrittenForm>
     ensures exact { ReadExactly octets.now result }
     ensures law { Exact }
 {
-    match read_message(octets) {
-        Some(message) => Ok(message),
-        None => Err(NotWrittenForm),
-    }
+    read_message(octets).ok_or(NotWrittenForm)
 }

@@ -1,14 +1,14 @@
 // Uplink messages, written into the caller's buffer.
-ghost use Rattle.std.specs.Prelude.{◌≡◌, ◌+◌, ◌<◌, ◌≤◌, true, length};
+ghost use Rattle.std.specs.Prelude.{◌≡◌, ◌+◌, ◌≤◌, true, ◌++◌, length};
 ghost use Rattle.std.specs.Option.{option_map};
-ghost use Rattle.ul_nas.specs.declared.message.Content.TheVariants.{EstablishmentRequest};
 ghost use Rattle.ul_nas.specs.Message.{carried, viewed};
-ghost use Rattle.ul_nas.specs.Lawful.{lawful, lawful_elements};
-ghost use Rattle.ul_nas.specs.Format.{fixed_part, container, frame, element, optional, elements, encoding};
-ghost use Rattle.ul_nas.specs.Writing.{over, Fitting, write_answer, buffer_after, refusal_number};
+ghost use Rattle.ul_nas.specs.Lawful.{lawful};
+ghost use Rattle.ul_nas.specs.Format.{fixed_part, optional, elements, encoding};
+ghost use Rattle.ul_nas.specs.Writing.{write_answer, buffer_after, refusal_number};
 ghost use Rattle.ul_nas.specs.Laws.{RoundTrip, ReadsBack};
 
-use crate::message::{Content, Establishment, UplinkMessage};
+use crate::message::{Content, UplinkMessage};
+use arrayvec::ArrayVec;
 
 // Why a message is not written.
 #[derive(Clone, Copy, PartialEq, Debug)]
@@ -31,137 +31,75 @@ impl WriteRefusal {
     }
 }
 
-// Writes octets at the front of a buffer, and answers how many.
-fn put(out: &mut [u8], octets: &[u8]) -> usize
-    requires { length octets.now ≤ length out.old }
-    ensures after { out.new ≡ over octets.now out.old }
-    ensures count { result ≡ length octets.now }
+// A message as it is being written: no lawful one has more octets.
+type Written = ArrayVec<u8, 127>;
+
+// Appends octets.
+fn append(written: &mut Written, octets: &[u8])
+    requires { length written.old.items + length octets.now ≤ 127 }
+    ensures { written.new.items ≡ written.old.items ++ octets.now }
 {
-    out[0..octets.len()].copy_from_slice(octets);
-    octets.len()
+    let _ = written.try_extend_from_slice(octets);
 }
 
-// Writes an element at the front of a buffer.
-fn put_element(out: &mut [u8], identifier: u8, content: &[u8]) -> usize
-    requires room { 2 + length content.now ≤ length out.old }
-    requires short { length content.now < 256 }
-    ensures after { out.new ≡ over (element identifier content.now) out.old }
-    ensures count { result ≡ 2 + length content.now }
+// Appends an element, if it is present.
+fn append_optional(written: &mut Written, identifier: u8, content: Option<&[u8]>)
+    requires { length written.old.items + length (optional identifier (option_map (λ x. x.now) content)) ≤ 127 }
+    ensures { written.new.items ≡ written.old.items ++ optional identifier (option_map (λ x. x.now) content.entry) }
 {
-    let at = put(out, &[identifier, content.len() as u8]);
-    at + put(&mut out[at..], content)
-}
-
-// Writes an element, if it is present.
-fn put_optional(out: &mut [u8], identifier: u8, content: Option<&[u8]>) -> usize
-    requires room { length (optional identifier (option_map (λ x. x.now) content)) ≤ length out.old }
-    requires short { Fitting (option_map (λ x. x.now) content) }
-    ensures after { out.new ≡ over (optional identifier (option_map (λ x. x.now) content.entry)) out.old }
-    ensures count { result ≡ length (optional identifier (option_map (λ x. x.now) content.entry)) }
-{
-    match content {
-        Some(content) => put_element(out, identifier, content),
-        None => 0,
+    if let Some(content) = content {
+        append(written, &[identifier, content.len() as u8]);
+        append(written, content);
     }
 }
 
-// How many octets the container has: the header and the fixed part.
-fn container_length(content: &Content<'_>) -> u8
-    ensures { result ≡ 4 + length (fixed_part (carried content.now)) }
+// Appends what follows the identity: for an establishment request 8T with the request type T, the slice and the name.
+fn append_elements(written: &mut Written, content: Content<'_>)
+    requires { length written.old.items + length (elements (carried content)) ≤ 127 }
+    ensures { written.new.items ≡ written.old.items ++ elements (carried content.entry) }
+{
+    if let Content::EstablishmentRequest(request) = content {
+        append(written, &[request.request_type.octet()]);
+        append_optional(written, 0x22, request.slice);
+        append_optional(written, 0x25, request.name);
+    }
+}
+
+// The fixed part behind the message type.
+fn fixed_part(content: &Content<'_>) -> &'static [u8]
+    ensures { result.now ≡ fixed_part (carried content.now) }
 {
     match *content {
-        Content::EstablishmentRequest(_) => 6,
-        Content::Status => 5,
-        _ => 4,
+        Content::EstablishmentRequest(_) => &[0xFF, 0xFF],
+        Content::Status => &[0x2B],
+        _ => &[],
     }
 }
 
-// Writes the container: 2E, identity, PTI, message type, fixed part.
-fn put_container(out: &mut [u8], message: &UplinkMessage<'_>) -> usize
-    requires { 4 + length (fixed_part (carried message.now.content)) ≤ length out.old }
-    ensures after { out.new ≡ over (container message.now.identity message.now.pti (carried message.now.content)) out.old }
-    ensures count { result ≡ 4 + length (fixed_part (carried message.now.content)) }
-{
-    let identity = message.identity;
-    let pti = message.pti;
-    let octet = message.content.message_type();
-    match message.content {
-        Content::EstablishmentRequest(_) => put(out, &[0x2E, identity, pti, octet, 0xFF, 0xFF]),
-        Content::Status => put(out, &[0x2E, identity, pti, octet, 0x2B]),
-        _ => put(out, &[0x2E, identity, pti, octet]),
-    }
-}
-
-// Writes the transport with the container, up to the identity behind it.
-fn put_frame(out: &mut [u8], message: &UplinkMessage<'_>) -> usize
-    requires { 12 + length (fixed_part (carried message.now.content)) ≤ length out.old }
-    ensures after { out.new ≡ over (frame message.now.identity message.now.pti (carried message.now.content)) out.old }
-    ensures count { result ≡ 12 + length (fixed_part (carried message.now.content)) }
-{
-    let size = container_length(&message.content);
-    let mut at = put(out, &[0x7E, 0x00, 0x67, 0x01, 0x00, size]);
-    at += put_container(&mut out[at..], message);
-    at += put(&mut out[at..], &[0x12, message.identity]);
-    at
-}
-
-// Writes the elements of an establishment request: 8T with the request type T, the slice, the name.
-fn put_request(out: &mut [u8], request: Establishment<'_>) -> usize
-    requires room { 1 + length (optional 0x22 (option_map (λ x. x.now) request.slice)) + length (optional 0x25 (option_map (λ x. x.now) request.name)) ≤ length out.old }
-    requires slice { Fitting (option_map (λ x. x.now) request.slice) }
-    requires name { Fitting (option_map (λ x. x.now) request.name) }
-    ensures after { out.new ≡ over (elements (carried (EstablishmentRequest request.entry))) out.old }
-    ensures count { result ≡ length (elements (carried (EstablishmentRequest request.entry))) }
-{
-    let mut at = put(out, &[request.request_type.octet()]);
-    at += put_optional(&mut out[at..], 0x22, request.slice);
-    at += put_optional(&mut out[at..], 0x25, request.name);
-    at
-}
-
-// Writes what follows the identity.
-fn put_elements(out: &mut [u8], content: Content<'_>) -> usize
-    requires room { length (elements (carried content)) ≤ length out.old }
-    requires lawful { lawful_elements (carried content) ≡ true }
-    ensures after { out.new ≡ over (elements (carried content.entry)) out.old }
-    ensures count { result ≡ length (elements (carried content.entry)) }
-{
-    match content {
-        Content::EstablishmentRequest(request) => put_request(out, request),
-        _ => 0,
-    }
-}
-
-// How many octets an element has, if it is present.
-fn optional_length(content: Option<&[u8]>) -> usize
-    requires { Fitting (option_map (λ x. x.now) content) }
-    ensures { result ≡ length (optional 0 (option_map (λ x. x.now) content.entry)) }
-{
-    match content {
-        Some(content) => 2 + content.len(),
-        None => 0,
-    }
-}
-
-// How many octets follow the identity.
-fn elements_length(content: Content<'_>) -> usize
-    requires { lawful_elements (carried content) ≡ true }
-    ensures { result ≡ length (elements (carried content.entry)) }
-{
-    match content {
-        Content::EstablishmentRequest(request) => 1
-            + optional_length(request.slice)
-            + optional_length(request.name),
-        _ => 0,
-    }
-}
-
-// How many octets a lawful message is written in.
-fn encoded_length(message: &UplinkMessage<'_>) -> usize
+// The written form of a lawful message.
+fn written_form(message: &UplinkMessage<'_>) -> Written
     requires { lawful (viewed message.now) ≡ true }
-    ensures { result ≡ length (encoding (viewed message.now)) }
+    ensures { result.items ≡ encoding (viewed message.now) }
 {
-    8 + usize::from(container_length(&message.content)) + elements_length(message.content)
+    let UplinkMessage {
+        identity,
+        pti,
+        content,
+    } = *message;
+    let fixed = fixed_part(&content);
+    let size = 4 + fixed.len() as u8;
+    let octet = content.message_type();
+    let mut written = ArrayVec::new();
+    append(
+        &mut written,
+        &[
+            0x7E, 0x00, 0x67, 0x01, 0x00, size, 0x2E, identity, pti, octet,
+        ],
+    );
+    append(&mut written, fixed);
+    append(&mut written, &[0x12, identity]);
+    append_elements(&mut written, content);
+    written
 }
 
 // Writes a message: one that is not lawful is refused first, then a buffer that is too short.
@@ -172,11 +110,13 @@ fn write_message(message: &UplinkMessage<'_>, out: &mut [u8]) -> Result<usize, W
     if !message.is_lawful() {
         return Err(WriteRefusal::NotLawful);
     }
-    if out.len() < encoded_length(message) {
+    let written = written_form(message);
+    let size = written.len();
+    if out.len() < size {
         return Err(WriteRefusal::Short);
     }
-    let at = put_frame(out, message);
-    Ok(at + put_elements(&mut out[at..], message.content))
+    out[..size].copy_from_slice(&written);
+    Ok(size)
 }
 
 // Writes a message at the front of the buffer, and answers how many octets it has; the octets behind it stay.

@@ -6,7 +6,7 @@ mod tests {
     use std::process::Abort;
     use std::test::Fail;
     use ul_nas::laws::{longest_encoding, worked_reply, worked_request};
-    use ul_nas::message::{Content, Establishment, RequestType, UplinkMessage};
+    use ul_nas::message::{Content, Establishment, RequestType, UnknownRequestType, UplinkMessage};
     use ul_nas::read::read;
     use ul_nas::write::{WriteRefusal, write};
 
@@ -136,13 +136,13 @@ mod tests {
 
     #[test]
     fn request_type_numbers(rt: HostRuntime) {
-        assert_eq!(rt; RequestType::from_number(0), None);
-        assert_eq!(rt; RequestType::from_number(1), Some(RequestType::Initial));
+        assert_eq!(rt; RequestType::try_from(0), Err(UnknownRequestType));
+        assert_eq!(rt; RequestType::try_from(1), Ok(RequestType::Initial));
         assert_eq!(rt;
-            RequestType::from_number(4),
-            Some(RequestType::ExistingEmergency)
+            RequestType::try_from(4),
+            Ok(RequestType::ExistingEmergency)
         );
-        assert_eq!(rt; RequestType::from_number(5), None);
+        assert_eq!(rt; RequestType::try_from(5), Err(UnknownRequestType));
         assert_eq!(rt; RequestType::InitialEmergency.number(), 3);
         assert!(rt; RequestType::InitialEmergency.is_emergency());
         assert!(rt; !RequestType::Existing.is_emergency());

@@ -1,7 +1,5 @@
-use Rattle.std.proofs.Common.{sym, ap, ◌∙◌, arith, rules, ltb-false, ltb-true}
-use Rattle.std.proofs.lemmas.List.{nil_from_length}
+use Rattle.std.proofs.Common.{◌∙◌, arith, rules, ltb-false, ltb-true}
 use Rattle.std.proofs.lemmas.Result.{err_from_is_err_and}
-use Rattle.dl_nas.specs.Elements.{walked}
 use Rattle.dl_nas.proofs.Walks.{turn, stop}
 use Rattle.dl_nas.proofs.elements.walk.Goals as goal
 
@@ -19,8 +17,3 @@ loop-rest-preserved c =
     let t = turn c.loop-rest.rest.now c.loop-rest.place c.in_ok-size.size c.loop-rest.found c.noted-found.result
     (omega (arith, ltb-true, ltb-false)) c.in_ok-size.ensures c.noted-found.ensures in
     (c.loop-rest.invariant.0 ∙ t, search rules)
-
-pub returns : goal.returns
-returns c =
-    let e = ap (λ xs. walked xs 0 c.loop-rest.place c.loop-rest.found) (nil_from_length c.loop-rest.rest.now (omega (arith, ltb-true, ltb-false))) in
-    sym (c.loop-rest.invariant.0 ∙ e)

@@ -1,7 +1,5 @@
 use Rattle.dl_nas.proofs.Messages.{accepts_format}
 use Rattle.dl_nas.proofs.message.read.Goals as goal
 
-pub returns : goal.returns
-returns c =
-    let e = c.read_layers.ensures in
-    record { answer = e; format = accepts_format c.args.message.now c.read_layers.result e }
+pub returns-clause-format : goal.returns-clause-format
+returns-clause-format c = accepts_format c.args.message.now c.read_layers.result c.read_layers.ensures

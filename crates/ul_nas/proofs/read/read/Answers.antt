@@ -1,11 +1,9 @@
-use Rattle.std.proofs.Common.{Ok, Err}
+use Rattle.std.proofs.Common.{rules}
 use Rattle.ul_nas.proofs.Exacts.{exact, read_exactly}
 use Rattle.ul_nas.proofs.read.read.Goals as goal
 
-pub returns-in-Some : goal.returns-in-Some
-returns-in-Some c =
-    record { answer = c.in-Some.ensures; exact = read_exactly c.args.octets.now (Ok c.in-Some.message) c.in-Some.ensures; law = exact }
+pub returns-clause-exact : goal.returns-clause-exact
+returns-clause-exact c = read_exactly c.args.octets.now c.ok_or.result (search rules)
 
-pub returns-in-None : goal.returns-in-None
-returns-in-None c =
-    record { answer = c.in-None.ensures; exact = read_exactly c.args.octets.now (Err _) c.in-None.ensures; law = exact }
+pub returns-clause-law : goal.returns-clause-law
+returns-clause-law c = exact
