@@ -1,4 +1,7 @@
 // What a line of the script asks for.
+ghost use Rattle.std.specs.Prelude.{◌≡◌};
+ghost use Rattle.bench.specs.Verbs.{verb_named};
+
 use bar_record::kept::RECORD_LENGTH;
 use script::hex::{octet, octets};
 use script::number::number;
@@ -31,17 +34,19 @@ enum Verb {
     Read,
     Sent,
     Record,
-    Other,
 }
 
-fn verb_of(word: &[u8]) -> Verb {
+// The call that a word names.
+fn verb_of(word: &[u8]) -> Option<Verb>
+    ensures { result ≡ verb_named word.now }
+{
     match word {
-        b"octet" => Verb::Octet,
-        b"seconds" => Verb::Seconds,
-        b"read" => Verb::Read,
-        b"sent" => Verb::Sent,
-        b"record" => Verb::Record,
-        _ => Verb::Other,
+        b"octet" => Some(Verb::Octet),
+        b"seconds" => Some(Verb::Seconds),
+        b"read" => Some(Verb::Read),
+        b"sent" => Some(Verb::Sent),
+        b"record" => Some(Verb::Record),
+        _ => None,
     }
 }
 
@@ -57,30 +62,18 @@ fn octets_of(heap: Global, word: &[u8]) -> Result<Option<Vec<u8>>, AllocError> {
 // The call of a line of two words, where it has the form of one.
 fn call(heap: Global, line: &[u8]) -> Result<Option<Command>, AllocError> {
     let argument = word(line, 1);
-    let command = match verb_of(word(line, 0)) {
-        Verb::Octet => match octet(argument) {
-            Some(octet) => Command::Octet(octet),
-            None => return Ok(None),
-        },
-        Verb::Seconds => match number(argument) {
-            Some(seconds) => Command::Seconds(seconds),
-            None => return Ok(None),
-        },
-        Verb::Read => match octets_of(heap, argument)? {
-            Some(octets) => Command::Read(octets),
-            None => return Ok(None),
-        },
-        Verb::Sent => match octets_of(heap, argument)? {
-            Some(octets) => Command::Sent(octets),
-            None => return Ok(None),
-        },
-        Verb::Record => match octets_of(heap, argument)? {
-            Some(octets) if octets.len() == RECORD_LENGTH => Command::Record(octets),
-            _ => return Ok(None),
-        },
-        Verb::Other => return Ok(None),
+    let Some(verb) = verb_of(word(line, 0)) else {
+        return Ok(None);
     };
-    Ok(Some(command))
+    Ok(match verb {
+        Verb::Octet => octet(argument).map(|octet| Command::Octet(octet)),
+        Verb::Seconds => number(argument).map(|seconds| Command::Seconds(seconds)),
+        Verb::Read => octets_of(heap, argument)?.map(|octets| Command::Read(octets)),
+        Verb::Sent => octets_of(heap, argument)?.map(|octets| Command::Sent(octets)),
+        Verb::Record => octets_of(heap, argument)?
+            .filter(|octets| octets.len() == RECORD_LENGTH)
+            .map(|octets| Command::Record(octets)),
+    })
 }
 
 // What a line asks for.
@@ -91,8 +84,6 @@ pub fn understand(heap: Global, line: &[u8]) -> Result<Line, AllocError> {
     if !word(line, 2).is_empty() {
         return Ok(Line::NotUnderstood);
     }
-    match call(heap, line)? {
-        Some(command) => Ok(Line::Call(command)),
-        None => Ok(Line::NotUnderstood),
-    }
+    let command = call(heap, line)?;
+    Ok(command.map_or(Line::NotUnderstood, |command| Line::Call(command)))
 }

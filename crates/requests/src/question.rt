@@ -1,9 +1,11 @@
 // The questions that stop a request.
 ghost use Rattle.std.specs.Prelude.{◌≡◌};
+ghost use Rattle.requests.specs.declared.question.Question.TheVariants.{RequestType};
 ghost use Rattle.requests.specs.Questions.{question_number, timer_question, part_stop};
 
 use keys::refusal::PartRefusal;
 use session::timers::TimerKind;
+use ul_nas::message::UnknownRequestType;
 
 // A question that was answered no, with its number.
 #[derive(Clone, Copy, PartialEq, Eq, Debug)]
@@ -67,5 +69,13 @@ impl From<PartRefusal> for Question {
             PartRefusal::Name => Question::Name,
             PartRefusal::Slice => Question::Slice,
         }
+    }
+}
+
+impl From<UnknownRequestType> for Question {
+    ghost from_gives = { λ x y. y ≡ RequestType };
+
+    fn from(_: UnknownRequestType) -> Question {
+        Question::RequestType
     }
 }

@@ -28,9 +28,7 @@ impl Wanted {
     ) -> Result<Wanted, Question>
         ensures { told_wanted result ≡ wanted_of request_type (option_map (λ x. x.now) slice.entry) (option_map (λ x. x.now) name.entry) }
     {
-        let Ok(request_type) = RequestType::try_from(request_type) else {
-            return Err(Question::RequestType);
-        };
+        let request_type = RequestType::try_from(request_type)?;
         if request_type.is_emergency() && (slice.is_some() || name.is_some()) {
             return Err(Question::EmergencyParts);
         }
