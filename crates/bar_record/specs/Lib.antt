@@ -2,3 +2,4 @@ pub mod Record
 pub mod Views
 pub mod Answers
 pub mod Reading
+pub mod Lawful

@@ -2,6 +2,7 @@
 #![tactic(auto)]
 
 pub mod kept;
+pub mod lawful;
 mod parts;
 pub mod read;
 pub mod write;

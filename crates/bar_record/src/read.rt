@@ -7,7 +7,7 @@ ghost use Rattle.bar_record.specs.Record.{kept_view, seconds_octet, seconds_kept
 ghost use Rattle.bar_record.specs.Reading.{told};
 ghost use Rattle.bar_record.specs.Answers.{Stands, key_made, ReadExactly, ReadsBack};
 
-use crate::kept::{KeptBar, KeptKey, RECORD_LENGTH, is_kept};
+use crate::kept::{KeptBar, KeptKey, RECORD_LENGTH};
 use keys::key::{NameKey, SliceKey, SliceNameKey};
 use keys::name::Name;
 use keys::network::Network;
@@ -95,11 +95,14 @@ fn candidate(record: &[u8; RECORD_LENGTH]) -> Option<KeptBar>
     })
 }
 
-// Whether a record is that of a bar whose seconds can be kept.
+// Whether a record is that of a lawful bar.
 fn is_record_of(record: &[u8; RECORD_LENGTH], bar: &KeptBar) -> bool
     ensures { Decides result ((«record».now ≡ written (kept_view bar.now)) × (seconds_kept bar.now.seconds ≡ true)) }
 {
-    is_kept(bar.seconds) && *record == bar.parts().record()
+    match bar.lawful() {
+        Some(bar) => *record == bar.record(),
+        None => false,
+    }
 }
 
 // Reads a record: the bar, if the record is lawful. What is read is a lawful bar whose record this is; what is not read

@@ -3,7 +3,7 @@ ghost use Rattle.std.specs.Prelude.{◌≡◌, length};
 ghost use Rattle.bar_record.specs.Record.{kept_view};
 ghost use Rattle.bar_record.specs.Answers.{write_answer, place_after};
 
-use crate::kept::{KeptBar, RECORD_LENGTH, is_kept};
+use crate::kept::{KeptBar, RECORD_LENGTH};
 
 // Why a record is not written: the place has not 128 octets, or the seconds are none or too many. The length is looked at first.
 #[derive(Clone, Copy, PartialEq, Eq, Debug)]
@@ -20,9 +20,7 @@ pub fn write(bar: &KeptBar, record: &mut [u8]) -> Result<(), RecordRefusal>
     if record.len() != RECORD_LENGTH {
         return Err(RecordRefusal::Length);
     }
-    if !is_kept(bar.seconds) {
-        return Err(RecordRefusal::Seconds);
-    }
-    record.copy_from_slice(&bar.parts().record());
+    let bar = bar.lawful().ok_or(RecordRefusal::Seconds)?;
+    record.copy_from_slice(&bar.record());
     Ok(())
 }

@@ -1,40 +1,29 @@
 // Storing the kept set of bars.
 ghost use Rattle.std.specs.Prelude.{◌≡◌, ◌+◌, ◌<◌, ◌≤◌, true, ◌++◌, map, length, take, drop, IfSome, OnSome};
 ghost use Rattle.std.specs.Option.{option_map};
-ghost use Rattle.bar_record.specs.Record.{kept_view, seconds_kept, written};
+ghost use Rattle.bar_record.specs.Lawful.{lawful_view};
+ghost use Rattle.bar_record.specs.Record.{written};
 ghost use Rattle.timers.specs.Timers.{timers_view};
 ghost use Rattle.kept_set.specs.Trailer.{trailer_number, trailer};
 ghost use Rattle.kept_set.specs.Storing.{number_before, put_before, kept_bars, stored};
 
 use crate::TRAILER;
-use bar_record::kept::KeptBar;
-use bar_record::write::write;
+use bar_record::lawful::LawfulBar;
 use bars::table::PLACES;
 use keeper::{Keeper, RECORD_LENGTH};
 use keys::card::Card;
 use timers::timers::Timers;
 
-// The record of a bar whose seconds can be kept.
-fn record_of(bar: &KeptBar) -> [u8; RECORD_LENGTH]
-    requires { seconds_kept bar.now.seconds ≡ true }
-    ensures { result ≡ written (kept_view bar.now) }
-{
-    let mut record = [0; RECORD_LENGTH];
-    let _ = write(bar, &mut record);
-    record
-}
-
 // Puts the record of a bar, if there is one, in front of others; answers the number of the first.
-fn put_before<K: Keeper>(keeper: &mut K, first: u8, bar: Option<KeptBar>) -> u8
+fn put_before<K: Keeper>(keeper: &mut K, first: u8, bar: Option<LawfulBar>) -> u8
     requires first { OnSome bar (0 < first) }
     requires last { first ≤ trailer_number }
-    requires seconds { IfSome bar (λ b. seconds_kept b.seconds ≡ true) }
-    ensures answer { result ≡ number_before (option_map kept_view bar) first }
-    ensures records { K.Keeper.records keeper.new ≡ put_before (option_map kept_view bar) first (K.Keeper.records keeper.old) }
+    ensures answer { result ≡ number_before (option_map lawful_view bar) first }
+    ensures records { K.Keeper.records keeper.new ≡ put_before (option_map lawful_view bar) first (K.Keeper.records keeper.old) }
 {
     match bar {
         Some(bar) => {
-            let _ = keeper.write(first - 1, &record_of(&bar));
+            let _ = keeper.write(first - 1, &bar.record());
             first - 1
         }
         None => first,

@@ -1,15 +1,17 @@
 // The kept bars among a handset's timers: a kept bar restored, and the bars that are to be kept.
-ghost use Rattle.std.specs.Prelude.{◌≡◌, true, IfSome, if◌then◌else◌, Some, None, slice_index_or};
+ghost use Rattle.std.specs.Prelude.{◌≡◌, if◌then◌else◌, Some, None, slice_index_or};
 ghost use Rattle.std.specs.Option.{option_map};
 ghost use Rattle.backoff.specs.declared.timer.BackOffTimer.TheVariants.{Running};
 ghost use Rattle.bars.specs.Bars.{shown, imposed};
-ghost use Rattle.bar_record.specs.Record.{kind_number, key_octets, kept_view, seconds_kept};
+ghost use Rattle.bar_record.specs.Lawful.{lawful_view};
+ghost use Rattle.bar_record.specs.Record.{kind_number, key_octets, kept_view};
 ghost use Rattle.timers.specs.Timers.{timers_view};
 ghost use Rattle.timers.specs.Kept.{takes, takes_kept, with_kept, standing_in, kept_timer, kept_at, kept_places};
 
 use super::Timers;
 use backoff::timer::BackOffTimer;
-use bar_record::kept::{KeptAs, KeptBar, KeptKey, is_kept};
+use bar_record::kept::{KeptAs, KeptBar, KeptKey};
+use bar_record::lawful::LawfulBar;
 use bars::bar::is_standing;
 use bars::table::{PLACES, Table};
 use keys::key::Key;
@@ -25,20 +27,18 @@ fn start_on<K: Key + Copy>(table: &mut Table<K>, key: K, seconds: u32) -> bool
 }
 
 // What is kept of the timer on a key.
-fn kept_of(key: KeptKey, timer: BackOffTimer) -> Option<KeptBar>
-    ensures view { option_map kept_view result ≡ kept_timer (kind_number key) (key_octets key) timer }
-    ensures seconds { IfSome result (λ b. seconds_kept b.seconds ≡ true) }
+fn kept_of(key: KeptKey, timer: BackOffTimer) -> Option<LawfulBar>
+    ensures { option_map lawful_view result ≡ kept_timer (kind_number key) (key_octets key) timer }
 {
     match timer {
-        BackOffTimer::Running(seconds) if is_kept(seconds) => Some(KeptBar { key, seconds }),
+        BackOffTimer::Running(seconds) => KeptBar { key, seconds }.lawful(),
         _ => None,
     }
 }
 
 // The bar to keep at a place of a table.
-fn bar_in<K: KeptAs + Copy>(table: &Table<K>, place: usize) -> Option<KeptBar>
-    ensures view { option_map kept_view result ≡ kept_at K.KeptAs.kind (shown K.Key.octets table.now.places) place }
-    ensures seconds { IfSome result (λ b. seconds_kept b.seconds ≡ true) }
+fn bar_in<K: KeptAs + Copy>(table: &Table<K>, place: usize) -> Option<LawfulBar>
+    ensures { option_map lawful_view result ≡ kept_at K.KeptAs.kind (shown K.Key.octets table.now.places) place }
 {
     let bar = table.bar_at(place)?;
     kept_of(bar.key.kept(), bar.timer)
@@ -66,9 +66,8 @@ impl Timers {
     }
 
     // The bar to keep at one of the 96 places of T3396, T3584 and T3585, one table after the other.
-    pub fn running_at(&self, place: usize) -> Option<KeptBar>
-        ensures view { option_map kept_view result ≡ slice_index_or (kept_places (timers_view self.now)) place None }
-        ensures seconds { IfSome result (λ b. seconds_kept b.seconds ≡ true) }
+    pub fn running_at(&self, place: usize) -> Option<LawfulBar>
+        ensures { option_map lawful_view result ≡ slice_index_or (kept_places (timers_view self.now)) place None }
     {
         if place < PLACES {
             bar_in(&self.t3396, place)

@@ -25,9 +25,8 @@ put_before-first-requires g c =
     let inv = c.loop-place.invariant in
     let n = inv.count in
     record {
-      first = put_room old (kept_places (timers_view t)) (full t) (omega arith) c.loop-place.place c.loop-place.first (g.K.Keeper.records c.loop-place.keeper) (omega arith) (omega arith) inv c.running_at.result c.running_at.ensures.view;
+      first = put_room old (kept_places (timers_view t)) (full t) (omega arith) c.loop-place.place c.loop-place.first (g.K.Keeper.records c.loop-place.keeper) (omega arith) (omega arith) inv c.running_at.result c.running_at.ensures;
       last = omega arith;
-      seconds = c.running_at.ensures.seconds;
     }
 
 pub loop-place-preserved : goal.loop-place-preserved
@@ -36,7 +35,7 @@ loop-place-preserved g c =
     let old = g.K.Keeper.records c.args.keeper.now in
     let count = g.met.K.Keeper.count c.args.keeper.now in
     let e = c.put_before-first.ensures in
-    let there = c.running_at.ensures.view in
+    let there = c.running_at.ensures in
     put_more old (kept_places (timers_view t)) (full t) (omega arith) c.loop-place.place c.loop-place.first (g.K.Keeper.records c.loop-place.keeper) (omega arith) (omega arith) c.loop-place.invariant
     c.put_before-first.result (g.K.Keeper.records c.put_before-first.new.keeper)
     (e.answer ∙ ap (λ o. number_before o c.loop-place.first) there)

@@ -7,16 +7,16 @@ pub returns-then-place-lt-PLACES : goal.returns-then-place-lt-PLACES
 returns-then-place-lt-PLACES c =
     let t = c.args.self.now in
     let e = c.bar_in.ensures in
-    record { view = e.view ∙ sym (in_first (timers_view t) (names_full t) (slice_names_full t) c.args.place (omega arith)); seconds = e.seconds }
+    e ∙ sym (in_first (timers_view t) (names_full t) (slice_names_full t) c.args.place (omega arith))
 
 pub returns-then-place : goal.returns-then-place
 returns-then-place c =
     let t = c.args.self.now in
     let e = c.bar_in-then-place.ensures in
-    record { view = e.view ∙ sym (in_second (timers_view t) (names_full t) (slice_names_full t) c.args.place (omega arith) (omega arith)); seconds = e.seconds }
+    e ∙ sym (in_second (timers_view t) (names_full t) (slice_names_full t) c.args.place (omega arith) (omega arith))
 
 pub returns-else-place : goal.returns-else-place
 returns-else-place c =
     let t = c.args.self.now in
     let e = c.bar_in-else-place.ensures in
-    record { view = e.view ∙ sym (in_third (timers_view t) (names_full t) (slice_names_full t) c.args.place (omega arith)); seconds = e.seconds }
+    e ∙ sym (in_third (timers_view t) (names_full t) (slice_names_full t) c.args.place (omega arith))
