@@ -9,8 +9,9 @@ use Rattle.backoff.specs.declared.timer.BackOffTimer.TheVariants.{Stopped, Runni
 use Rattle.keys.specs.Octets.{KeyOctets}
 use Rattle.bars.specs.declared.bar.Bar.{Bar}
 use Rattle.bars.specs.Sizes.{place_count}
-use Rattle.bar_record.specs.declared.kept.KeptBar.{KeptBar}
-use Rattle.bar_record.specs.Record.{Kept, kept_view, octet_at, written, seconds_kept}
+use Rattle.bar_record.specs.declared.lawful.LawfulBar.{LawfulBar}
+use Rattle.bar_record.specs.Lawful.{lawful_view}
+use Rattle.bar_record.specs.Record.{Kept, octet_at, written, seconds_kept}
 use Rattle.timers.specs.Timers.{TimersView}
 use Rattle.timers.specs.Kept.{kept_timer, kept_bar, kept_places}
 use Rattle.keeper.specs.Records.{records_after}
@@ -139,7 +140,7 @@ module _ (old : List (List ℕ)) (ps : List (Option Kept)) where
           subst (λ n. Put old ps (i - 1) n records') (sym ef) (subst (λ rs. Put old ps (i - 1) (number_before (get_or ps (i - 1) None) first) rs) (sym er) r)
 
       -- before the records there is one more for a bar
-      pub put_room : (bar : Option KeptBar) → option_map kept_view bar ≡ get_or ps (i - 1) None → IfSome bar (λ _. 0 < first)
+      pub put_room : (bar : Option LawfulBar) → option_map lawful_view bar ≡ get_or ps (i - 1) None → IfSome bar (λ _. 0 < first)
       put_room None e = tt
       put_room (Some b) e =
           let c = inv.count in
