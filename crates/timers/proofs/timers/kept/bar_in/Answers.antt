@@ -6,13 +6,13 @@ use Rattle.timers.specs.Kept.{kept_timer}
 use Rattle.timers.proofs.Places.{at_bar, at_none}
 use Rattle.timers.proofs.timers.kept.bar_in.Goals as goal
 
-pub returns : goal.returns
-returns g c =
+pub returns-clause-view : goal.returns-clause-view
+returns-clause-view g c =
     let octets = g.K.Key.octets in
     let bar = c.in_ok-bar.bar in
     let there = at_bar g.K.KeptAs.kind (shown octets c.args.table.now.places) c.args.place (bar_octets octets bar) c.in_ok-bar.ensures in
     let told = ap (λ n. kept_timer n (key_octets c.kept.result) bar.timer) c.kept.ensures.kind ∙ ap (λ k. kept_timer g.K.KeptAs.kind k bar.timer) c.kept.ensures.key in
-    record { view = c.kept_of.ensures.view ∙ told ∙ sym there; seconds = c.kept_of.ensures.seconds }
+    c.kept_of.ensures.view ∙ told ∙ sym there
 
 pub returns-in_err-bar-clause-view : goal.returns-in_err-bar-clause-view
 returns-in_err-bar-clause-view g c =
