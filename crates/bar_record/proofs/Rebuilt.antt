@@ -2,7 +2,7 @@
 use Rattle.std.proofs.Common.{◌≡◌, ℕ, ◌+◌, ◌-◌, ◌^◌, ◌<◌, ◌≤◌, true, ◌⊎◌, List, [], length, get_or, Some, Option, sym, refl, ap, ◌∙◌, inl, inr, ⊎_elim, arith}
 use Rattle.std.specs.Option.{option_map}
 use Rattle.std.proofs.lemmas.List.FromFn.{get_or-map-range_with_len, length-map-range_with_len}
-use Rattle.std.proofs.lemmas.List.{length-take-le}
+use Rattle.std.proofs.lemmas.List.{length-take-le, nil_from_length}
 use Rattle.std.proofs.lemmas.Bool.{and_parts, and_from, cases_eq, eq-eqb, eqb-true, le-leb}
 use Rattle.std.proofs.lemmas.Bool.Decides.{nat_tests}
 use Rattle.keys.specs.Lengths.{slice_held}
@@ -14,7 +14,6 @@ use Rattle.bar_record.specs.declared.kept.KeptKey.{KeptKey}
 use Rattle.bar_record.specs.declared.kept.KeptKey.TheVariants.{T3396, T3584, T3585}
 use Rattle.bar_record.specs.Record.{Kept, kind_number, key_octets, kept_view, seconds_octet, octet_at, written, seconds_kept, key_kept, lawful}
 use Rattle.bar_record.specs.Answers.{Stands, key_made}
-use Rattle.bar_record.proofs.Standing.{no_octets}
 
 -- what a name holds is short
 name_short : (n : Name) → length (name_octets n) ≤ 100
@@ -123,7 +122,7 @@ module _ (v : Kept) (rec : List ℕ) (is : rec ≡ written v) (law : lawful v �
         let k = and_parts _ _ (kept_as 1 h) in
         let l = and_parts _ _ k.1 in
         ap (option_map (λ q. kept_view (record { key = q; seconds = seconds }))) (made_as 1 h)
-        ∙ same_kept 1 [] [] (name_octets name) seconds (sym h) (no_octets v.key.network (eqb-true _ 0 k.0)) (no_octets v.key.slice (eqb-true _ 0 l.0)) em et)
+        ∙ same_kept 1 [] [] (name_octets name) seconds (sym h) (sym (nil_from_length v.key.network (eqb-true _ 0 k.0))) (sym (nil_from_length v.key.slice (eqb-true _ 0 l.0))) em et)
         (⊎_elim
         (λ h.
         let k = and_parts _ _ (kept_as 2 h) in
@@ -133,5 +132,5 @@ module _ (v : Kept) (rec : List ℕ) (is : rec ≡ written v) (law : lawful v �
         let k = and_parts _ _ (kept_as 3 h) in
         let l = and_parts _ _ k.1 in
         ap (option_map (λ q. kept_view (record { key = q; seconds = seconds }))) (made_as 3 h)
-        ∙ same_kept 3 network.octets (slice_octets slice) [] seconds (sym h) (en (eqb-true _ 3 k.0)) es (no_octets v.key.name (eqb-true _ 0 l.1)) et))
+        ∙ same_kept 3 network.octets (slice_octets slice) [] seconds (sym h) (en (eqb-true _ 3 k.0)) es (sym (nil_from_length v.key.name (eqb-true _ 0 l.1))) et))
         kinds

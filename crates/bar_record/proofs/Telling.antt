@@ -2,13 +2,15 @@
 use Rattle.std.proofs.Common.{◌≡◌, ℕ, true, cond, ◌&&◌, eqb, List, [], length, get_or, take, drop, Some, None, Option, sym, ap, ◌∙◌, ⊎_elim, arith}
 use Rattle.std.specs.Str.{bytes_eq}
 use Rattle.std.specs.Option.{option_map}
+use Rattle.std.proofs.lemmas.List.{nil_from_length}
+use Rattle.std.proofs.lemmas.Option.{cond_some}
 use Rattle.std.proofs.lemmas.Slice.Eq.{bytes_eq-Decides}
 use Rattle.std.proofs.lemmas.Bool.{and_parts, and_from, cases_Bool, cond-true, cond-false, eqb-true}
 use Rattle.bar_record.specs.declared.kept.KeptBar.{KeptBar}
 use Rattle.bar_record.specs.Record.{Kept, kept_view, written, lawful}
 use Rattle.bar_record.specs.Reading.{seconds_in, said_in, told}
 use Rattle.bar_record.specs.Answers.{ReadExactly}
-use Rattle.bar_record.proofs.Standing.{no_octets, stood, inner, not_none}
+use Rattle.bar_record.proofs.Standing.{stood}
 use Rattle.bar_record.proofs.Rebuilt.{whole, kind_is, slice_length_is, name_length_is, slice_short, name_is_short, network_stands, slice_stands, name_stands, seconds_fit, seconds_stand, kinds, kept_as}
 
 module _ (v : Kept) (rec : List ℕ) (is : rec ≡ written v) (law : lawful v ≡ true) where
@@ -21,7 +23,7 @@ module _ (v : Kept) (rec : List ℕ) (is : rec ≡ written v) (law : lawful v �
       ⊎_elim
       (λ h.
       let k = and_parts _ _ (kept_as v rec is law 1 h) in
-      ap (λ j. cond (eqb j 1) [] (take 3 (drop 1 rec))) (e ∙ h) ∙ no_octets v.key.network (eqb-true _ 0 k.0))
+      ap (λ j. cond (eqb j 1) [] (take 3 (drop 1 rec))) (e ∙ h) ∙ sym (nil_from_length v.key.network (eqb-true _ 0 k.0)))
       (⊎_elim
       (λ h.
       let k = and_parts _ _ (kept_as v rec is law 2 h) in
@@ -86,10 +88,6 @@ told_of xs None e = sym (told_none xs e)
 -- what a record tells is a lawful bar whose record it is
 pub told_lawful : (xs : List ℕ) (v : Kept) → told xs ≡ Some v → (lawful v ≡ true) × (xs ≡ written v)
 told_lawful xs v e =
-    ⊎_elim
-    (λ h.
-    let p = and_parts _ _ h in
-    let same : said_in xs ≡ v = inner (sym (cond-true _ _ _ h) ∙ e) in
-    (ap lawful (sym same) ∙ p.0, (bytes_eq-Decides xs (written (said_in xs))).0 p.1 ∙ ap written same))
-    (λ h. absurd (not_none (sym (cond-false _ _ _ h) ∙ e)))
-    (cases_Bool (lawful (said_in xs) && bytes_eq xs (written (said_in xs))))
+    let d = cond_some (lawful (said_in xs) && bytes_eq xs (written (said_in xs))) (said_in xs) v e in
+    let p = and_parts _ _ d.0 in
+    (ap lawful (sym d.1) ∙ p.0, (bytes_eq-Decides xs (written (said_in xs))).0 p.1 ∙ ap written d.1)

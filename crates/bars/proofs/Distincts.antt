@@ -1,22 +1,20 @@
 -- Different keys: those of a row are as many as its timers, and no list covers them with fewer.
-use Rattle.std.proofs.Common.{◌≡◌, ℕ, ◌+◌, ◌≤◌, Bool, true, false, cond, not, ◌&&◌, ◌||◌, List, [], ◌∷◌, ◌++◌, map, sym, refl, ap, ◌∙◌, arith}
+use Rattle.std.proofs.Common.{◌≡◌, ◌+◌, ◌≤◌, Bool, true, false, cond, not, ◌||◌, List, [], ◌∷◌, ◌++◌, map, sym, refl, ap, ◌∙◌, arith}
+use Rattle.std.specs.Cmp.{both_ways}
 use Rattle.std.specs.List.{list_any}
 use Rattle.std.proofs.lemmas.Bool.{and_parts}
 use Rattle.std.proofs.lemmas.List.Sums.{sum_by-cons}
 use Rattle.keys.specs.Octets.{KeyOctets, same_key}
 use Rattle.keys.specs.Lawful.{key_lawful as laws}
 use Rattle.bars.specs.declared.bar.Bar.{Bar}
-use Rattle.bars.specs.Bars.{bar_octets, shown, stands, holds, timer_on, free, apart, standing}
-use Rattle.bars.specs.Claimed.{among, distinct, covered, keys_of, claimed_keys, claimed}
-use Rattle.bars.proofs.Rows.{same_tests, same_left}
+use Rattle.bars.specs.Bars.{stands, holds, timer_on, free, apart, standing}
+use Rattle.bars.specs.Claimed.{among, distinct, covered, keys_of}
+use Rattle.bars.proofs.Rows.{same_left}
 
 -- the keys of a list that are not the same as one
 abbrev pub without : KeyOctets → List KeyOctets → List KeyOctets
 without y [] = []
 without y (x ∷ xs) = cond (same_key y x) (without y xs) (x ∷ without y xs)
-
-or_right_when : (s f : Bool) → (not s || f) ≡ true → s ≡ true → f ≡ true
-or_right_when s f h e = grind arith
 
 module _ where
   pub among_same : (x y : KeyOctets) (xs : List KeyOctets) → same_key x y ≡ true → among x xs ≡ among y xs
@@ -25,7 +23,7 @@ module _ where
 
   -- a key that is the same as an element of a covered list
   pub among_covered : (x : KeyOctets) (xs ys : List KeyOctets) → covered xs ys ≡ true → among x xs ≡ true → among x ys ≡ true
-  among_covered x [] ys c h = absurd (let z : ◌≡◌ {A = ℕ} 0 1 = cc in omega arith)
+  among_covered x [] ys c h = cc
   among_covered x (z ∷ zs) ys c h =
       let k = and_parts (among z ys) (covered zs ys) c in
       let ih = among_covered x zs ys k.1 in
@@ -73,7 +71,7 @@ module _ where
   pub pigeonhole : (xs ys : List KeyOctets) → covered xs ys ≡ true → distinct xs ≤ distinct ys
   pigeonhole [] [] c = omega arith
   pigeonhole [] (y ∷ ys) c = omega arith
-  pigeonhole (x ∷ xs) [] c = absurd (let z : ◌≡◌ {A = ℕ} 0 1 = cc in omega arith)
+  pigeonhole (x ∷ xs) [] c = cc
   pigeonhole (x ∷ xs) (y ∷ ys) c =
       let k = and_parts (among x (y ∷ ys)) (covered xs (y ∷ ys)) c in
       let less = pigeonhole (without y (x ∷ xs)) ys (covered_without y (x ∷ xs) ys c) in
@@ -98,7 +96,7 @@ module _ where
   distinct_keys [] h = refl
   distinct_keys (b ∷ bs) h =
       let k = and_parts (not (stands b.timer) || free b.key bs) (apart bs) h in
-      let alone = λ (e : stands b.timer ≡ true). among_free b.key bs (or_right_when (stands b.timer) (free b.key bs) k.0 e) in
+      let alone = λ (e : stands b.timer ≡ true). among_free b.key bs (let f : free b.key bs ≡ true = grind arith in f) in
       let c = sum_by-cons (λ y. cond (stands y.timer) 1 0) b bs in
       distinct_cons (stands b.timer) b.key (keys_of bs) alone ∙ ap (λ n. cond (stands b.timer) 1 0 + n) (distinct_keys bs k.1) ∙ sym c
 
@@ -124,13 +122,5 @@ module _ {K : Type 0} (octets : K → KeyOctets) where
   pub among_any : (k : KeyOctets) (same : K → Bool) → ((x : K) → same x ≡ same_key (octets x) k) → (xs : List K) → list_any same xs ≡ among k (map octets xs)
   among_any k same e [] = refl
   among_any k same e (x ∷ xs) =
-      let turned = same_tests (same_key (octets x) k) (same_key k (octets x)) (laws.symmetric (octets x) k) (laws.symmetric k (octets x)) in
+      let turned = both_ways (same_key (octets x) k) (same_key k (octets x)) (laws.symmetric (octets x) k) (laws.symmetric k (octets x)) in
       ap (λ t. t || list_any same xs) (e x ∙ turned) ∙ ap (λ t. same_key k (octets x) || t) (among_any k same e xs)
-
-  one_claimed : (b : Bar KeyOctets) (bs : List (Bar KeyOctets)) (ks : List KeyOctets)
-      → claimed (b ∷ bs) ks ≡ cond (stands b.timer && not (among b.key (claimed_keys bs ks))) 1 0 + claimed bs ks
-  one_claimed b bs ks = grind arith
-
-  pub claimed_more : (b : Bar K) (bs : List (Bar K)) (ks : List KeyOctets)
-      → claimed (shown octets (b ∷ bs)) ks ≡ cond (stands b.timer && not (among (octets b.key) (claimed_keys (shown octets bs) ks))) 1 0 + claimed (shown octets bs) ks
-  claimed_more b bs ks = one_claimed (bar_octets octets b) (shown octets bs) ks

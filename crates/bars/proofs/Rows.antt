@@ -3,6 +3,7 @@ use Rattle.std.proofs.Common.{◌≡◌, ℕ, zero, suc, ◌<◌, ◌≤◌, Boo
 use Rattle.std.proofs.lemmas.Bool.{cond-false, and_parts, not-true}
 use Rattle.std.proofs.lemmas.List.Sums.{sum_by-cons, count_by-le-length}
 use Rattle.std.proofs.lemmas.Bool.Decides.{nat_tests}
+use Rattle.std.specs.Cmp.{both_ways}
 use Rattle.std.specs.List.{prefix_len}
 use Rattle.keys.specs.Octets.{KeyOctets, same_key}
 use Rattle.keys.specs.Lawful.{key_lawful as laws}
@@ -11,11 +12,6 @@ use Rattle.backoff.specs.declared.timer.BackOffTimer.TheVariants.{Stopped, Runni
 use Rattle.bars.specs.declared.bar.Bar.{Bar}
 use Rattle.bars.specs.Bars.{stands, holds, timer_on, free, apart, standing, retimed}
 
-pub same_tests : (a b : Bool) → (a ≡ true → b ≡ true) → (b ≡ true → a ≡ true) → a ≡ b
-same_tests true b f g = sym (f refl)
-same_tests false true f g = g refl
-same_tests false false f g = refl
-
 pub stopped_since : (t : BackOffTimer) → stands t ≡ false → t ≡ Stopped
 stopped_since Stopped e = refl
 stopped_since (Running s) e = cc
@@ -23,10 +19,10 @@ stopped_since Deactivated e = cc
 
 module _ where
   pub same_right : (x y z : KeyOctets) → same_key x y ≡ true → same_key z x ≡ same_key z y
-  same_right x y z e = same_tests (same_key z x) (same_key z y) (λ h. laws.transitive z x y h e) (λ h. laws.transitive z y x h (laws.symmetric x y e))
+  same_right x y z e = both_ways (same_key z x) (same_key z y) (λ h. laws.transitive z x y h e) (λ h. laws.transitive z y x h (laws.symmetric x y e))
 
   pub same_left : (x y z : KeyOctets) → same_key x y ≡ true → same_key x z ≡ same_key y z
-  same_left x y z e = same_tests (same_key x z) (same_key y z) (λ h. laws.transitive y x z (laws.symmetric x y e) h) (λ h. laws.transitive x y z e h)
+  same_left x y z e = both_ways (same_key x z) (same_key y z) (λ h. laws.transitive y x z (laws.symmetric x y e) h) (λ h. laws.transitive x y z e h)
 
   pub holds_same : (x y : KeyOctets) (b : Bar KeyOctets) → same_key x y ≡ true → holds x b ≡ holds y b
   holds_same x y b e = ap (λ t. stands b.timer && t) (same_right x y b.key e)

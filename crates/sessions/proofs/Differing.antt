@@ -9,7 +9,7 @@ use Rattle.sessions.specs.Ptis.{with_pti, waiting_ptis, some_pti, among, candida
 use Rattle.sessions.specs.Laws.{all_differ, not_pending, Differs, StayDifferent}
 
 first_not_among : (p : ℕ) (ws ps : List ℕ) → Some p ≡ first_free ws ps → among p ws ≡ false
-first_not_among p ws [] h = absurd (let z : ◌≡◌ {A = ℕ} 0 1 = cc in omega arith)
+first_not_among p ws [] h = cc
 first_not_among p ws (q ∷ qs) h = let ih = first_not_among p ws qs in grind (arith, nat_tests)
 
 next_not_among : (vs : List SessionView) (p last : ℕ) → Some p ≡ next_free vs last → among p (waiting_ptis vs) ≡ false
@@ -35,7 +35,7 @@ module _ (w : SessionView) (p : ℕ) (leaves : waiting_pti w ≡ Some p) where
 
   differ_none : (o : Option ℕ) (ws : List ℕ) → not (some_pti o) ≡ true → among p (with_pti o ws) ≡ false → all_differ (with_pti o ws) ≡ true → all_differ (with_pti (Some p) ws) ≡ true
   differ_none None ws e h d = grind arith
-  differ_none (Some q) ws e h d = absurd (let z : ◌≡◌ {A = ℕ} 0 1 = cc in omega arith)
+  differ_none (Some q) ws e h d = cc
 
   differ_more : (o : Option ℕ) (ws ws' : List ℕ) → among p (with_pti o ws) ≡ false → all_differ (with_pti o ws) ≡ true
       → ((q : ℕ) → eqb q p ≡ false → among q ws ≡ false → among q ws' ≡ false) → (among p ws ≡ false → all_differ ws ≡ true → all_differ ws' ≡ true)

@@ -9,7 +9,7 @@ pub after_pti : (p : ℕ) → is_pti (after p) ≡ true
 after_pti p = grind (arith, nat_tests)
 
 candidate_pti : (n p q : ℕ) → among q (candidates n p) ≡ true → is_pti q ≡ true
-candidate_pti zero p q h = absurd (let z : ◌≡◌ {A = ℕ} 0 1 = cc in omega arith)
+candidate_pti zero p q h = cc
 candidate_pti (suc n) p q h = let ih = candidate_pti n (after p) q in let a = after_pti p in grind (arith, nat_tests)
 
 -- how many steps lead from one PTI to another
@@ -23,7 +23,7 @@ next_step : (p : ℕ) → is_pti p ≡ true → steps p (after p) ≡ 1
 next_step p h = grind (arith, nat_tests)
 
 near : (n p q : ℕ) → is_pti p ≡ true → among q (candidates n p) ≡ true → steps p q ≤ n
-near zero p q l h = absurd (let z : ◌≡◌ {A = ℕ} 0 1 = cc in omega arith)
+near zero p q l h = cc
 near (suc n) p q l h =
     let ih = near n (after p) q (after_pti p) in
     let lq = candidate_pti n (after p) q in
@@ -47,7 +47,7 @@ shorter q [] = omega arith
 shorter q (w ∷ ws) = let ih = shorter q ws in grind arith
 
 less : (q : ℕ) (ws : List ℕ) → among q ws ≡ true → length (without q ws) < length ws
-less q [] h = absurd (let z : ◌≡◌ {A = ℕ} 0 1 = cc in omega arith)
+less q [] h = cc
 less q (w ∷ ws) h = let ih = less q ws in let s = shorter q ws in grind (arith, nat_tests)
 
 among_without : (p q : ℕ) (ws : List ℕ) → eqb q p ≡ false → among p (without q ws) ≡ among p ws
@@ -70,7 +70,7 @@ some_free (suc n) p ws h m =
 
 -- the first free one of some is the first of more
 pub first_longer : (m n p : ℕ) (ws : List ℕ) → m ≤ n → some_pti (first_free ws (candidates m p)) ≡ true → first_free ws (candidates n p) ≡ first_free ws (candidates m p)
-first_longer zero n p ws h e = absurd (let z : ◌≡◌ {A = ℕ} 0 1 = cc in omega arith)
+first_longer zero n p ws h e = cc
 first_longer (suc m) zero p ws h e = absurd (omega arith)
 first_longer (suc m) (suc n) p ws h e = let ih = first_longer m n (after p) ws (omega arith) in grind arith
 
@@ -124,7 +124,7 @@ seek_end vs last i p h m s =
     one_left (among p (waiting_ptis vs)) p (ap (λ k. some_pti (first_free (waiting_ptis vs) (p ∷ candidates k p))) (sym n) ∙ ap some_pti s.1 ∙ soon_some vs last h)
 
 free_among : (ws ps : List ℕ) (p : ℕ) → first_free ws ps ≡ Some p → among p ps ≡ true
-free_among ws [] p e = absurd (let z : ◌≡◌ {A = ℕ} 0 1 = cc in omega arith)
+free_among ws [] p e = cc
 free_among ws (q ∷ ps) p e = by_first (among q ws) (free_among ws ps p) e
   where
     by_first : (b : Bool) → (first_free ws ps ≡ Some p → among p ps ≡ true) → cond b (first_free ws ps) (Some q) ≡ Some p → among p (q ∷ ps) ≡ true

@@ -1,4 +1,3 @@
 pub mod Steps
 pub mod Free
-pub mod Listing
 pub mod Differing

@@ -1,6 +1,6 @@
 -- One session more or less of a table.
-use Rattle.std.proofs.Common.{◌≡◌, ℕ, ◌+◌, ◌<◌, ◌≤◌, cond, ◌||◌, List, [], ◌∷◌, ◌++◌, map, length, get_or, take, drop, set, Some, None, Option, sym, refl, ap, count_by, ◌∙◌, append-nil, arith}
-use Rattle.std.proofs.lemmas.List.{at_drop_more, length-map, get_or-map, map-set, take_all, drop_all}
+use Rattle.std.proofs.Common.{◌≡◌, ℕ, ◌+◌, ◌<◌, cond, ◌||◌, List, [], ◌∷◌, ◌++◌, map, length, get_or, take, drop, set, Some, None, Option, sym, refl, ap, count_by, ◌∙◌, arith}
+use Rattle.std.proofs.lemmas.List.{length-map, get_or-map, map-set}
 use Rattle.std.proofs.lemmas.List.Edits.{map_over_more}
 use Rattle.std.proofs.lemmas.Option.{slice_get-get_or}
 use Rattle.std.proofs.lemmas.Bool.Decides.{nat_tests}
@@ -13,7 +13,8 @@ use Rattle.sessions.specs.Acts.{expiry_of}
 use Rattle.session.specs.declared.session.Session.{Session}
 use Rattle.session.specs.Session.{SessionView, session_view, waiting_pti, with_state}
 use Rattle.session.specs.declared.state.State.TheVariants.{Inactive}
-use Rattle.sessions.specs.Table.{views, place_of, at_place, session_of, put, changed, made_inactive}
+use Rattle.sessions.specs.declared.table.Sessions.{Sessions}
+use Rattle.sessions.specs.Table.{views, sessions_view, place_of, at_place, session_of, put, changed}
 use Rattle.sessions.specs.Ptis.{with_pti, waiting_ptis, some_pti, is_pending, among, is_waiting, pending}
 
 pub among_with : (p : ℕ) (o : Option ℕ) (ws : List ℕ) → among p (with_pti o ws) ≡ (among p (with_pti o []) || among p ws)
@@ -24,11 +25,12 @@ pub length_with : (o : Option ℕ) (ws : List ℕ) → length (with_pti o ws) �
 length_with None ws = grind arith
 length_with (Some q) ws = grind arith
 
--- the loops over a row of sessions
-module _ (xs : List Session) (i : ℕ) (x : Session) (h : i < length xs) (is : x ≡ get_or xs i x) where
-  pub at_session : {Y : Type 0} (F : List SessionView → Y) → F (views (drop i xs)) ≡ F (session_view x ∷ views (drop (i + 1) xs))
-  at_session F = at_drop_more (λ ys. F (views ys)) xs i x h ∙ ap (λ y. F (session_view y ∷ views (drop (i + 1) xs))) (sym is)
+-- the table has fifteen sessions
+pub sessions_full : (t : Sessions) → length (sessions_view t) ≡ 15
+sessions_full t = length-map t.records session_view ∙ t.full
 
+-- a session of a row
+module _ (xs : List Session) (i : ℕ) (x : Session) (h : i < length xs) (is : x ≡ get_or xs i x) where
   -- the session at a place
   view_at : slice_get (views xs) i ≡ Some (session_view x)
   view_at =
@@ -76,11 +78,6 @@ module _ (xs ys : List Session) (i : ℕ) (inv : views ys ≡ map (with_state In
       map-set session_view ys i y ∙ ap (set (views ys) i) e
       ∙ map_over_more (with_state Inactive) (views xs) (views ys) i (session_view x) (rw length-map h) inv
       (ap session_view is ∙ sym (get_or-map session_view ys i x (session_view x) k))
-
-  pub inactive_all : length xs ≤ i → views ys ≡ made_inactive (views xs)
-  inactive_all h =
-      inv ∙ ap (λ t. map (with_state Inactive) t ++ drop i (views xs)) (take_all i (views xs) (rw length-map h))
-      ∙ ap (λ t. made_inactive (views xs) ++ t) (drop_all i (views xs) (rw length-map h)) ∙ append-nil (made_inactive (views xs))
 
 -- what becomes of the waiting request of a session that is there
 pub expiry_told : (seconds : ℕ) (o : Option SessionView) → unwrap_or (option_map (λ v. counted_expiry seconds v.state) o) Nothing ≡ expiry_of seconds o

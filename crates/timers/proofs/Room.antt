@@ -1,12 +1,10 @@
 -- A table in which fewer bars stand than it has places has a place for one more.
-use Rattle.std.proofs.Common.{◌≡◌, ◌≤◌, true, false, not, ltb, List, length, ap, ◌∙◌, arith}
+use Rattle.std.proofs.Common.{◌≡◌, true, false, not, ltb, List, length, ap, ◌∙◌}
 use Rattle.std.specs.List.{prefix_len}
-use Rattle.std.proofs.lemmas.List.{length-map}
-use Rattle.std.proofs.lemmas.List.Sums.{count_by-le-length}
 use Rattle.std.proofs.lemmas.Bool.{and_parts, not-true, cond-false}
 use Rattle.keys.specs.Octets.{KeyOctets}
 use Rattle.bars.specs.declared.bar.Bar.{Bar}
-use Rattle.bars.specs.Bars.{bar_octets, shown, stands, timer_on, standing, place_for, has_place}
+use Rattle.bars.specs.Bars.{stands, timer_on, standing, place_for, has_place}
 use Rattle.bars.specs.Sizes.{place_count}
 use Rattle.bars.proofs.Rows.{held_test, room_test}
 use Rattle.timers.specs.Kept.{takes}
@@ -20,10 +18,3 @@ pub taken_has_place : (k : KeyOctets) (bs : List (Bar KeyOctets)) → length bs 
 taken_has_place k bs full ok =
     let p = and_parts (not (stands (timer_on bs k))) (ltb (standing bs) place_count) ok in
     ap (λ i. ltb i (length bs)) (taken_place k bs (not-true _ p.0)) ∙ room_test bs ∙ ap (λ n. ltb (standing bs) n) full ∙ p.1
-
--- no more bars stand than the table has places
-pub standing_most : {K : Type 0} (octets : K → KeyOctets) (bs : List (Bar K)) → length bs ≡ place_count → standing (shown octets bs) ≤ place_count
-standing_most octets bs full =
-    let most = count_by-le-length (λ b. stands b.timer) (shown octets bs) in
-    let long = length-map bs (bar_octets octets) in
-    omega arith

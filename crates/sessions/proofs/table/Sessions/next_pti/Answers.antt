@@ -1,22 +1,17 @@
-use Rattle.std.proofs.Common.{sym, ◌∙◌, arith}
-use Rattle.std.proofs.lemmas.List.{length-map}
-use Rattle.session.specs.Session.{session_view}
+use Rattle.std.proofs.Common.{sym, arith}
 use Rattle.sessions.specs.Table.{sessions_view}
 use Rattle.sessions.specs.Ptis.{waiting_ptis}
+use Rattle.sessions.proofs.Steps.{sessions_full}
 use Rattle.sessions.proofs.Free.{seek_start, seek_more, seek_found, seek_end}
 use Rattle.sessions.proofs.table.Sessions.next_pti.Goals as goal
 
 pub loop-init : goal.loop-init
 loop-init c = seek_start (waiting_ptis (sessions_view c.args.self.now)) c.args.last c.after-pti.result c.after-pti.ensures
 
-pub returns-then-not-is_waiting : goal.returns-then-not-is_waiting
-returns-then-not-is_waiting c =
+pub returns-then-not-is_waiting-clause-first : goal.returns-then-not-is_waiting-clause-first
+returns-then-not-is_waiting-clause-first c =
     let t = c.args.self.now in
-    record {
-      first = seek_found (sessions_view t) c.args.last c.loop.counter c.loop.pti (length-map t.records session_view ∙ t.full) (sym c.if-not-is_waiting.ensures) c.loop.invariant;
-      lawful = c.loop.invariant.0;
-      free = sym c.if-not-is_waiting.ensures;
-    }
+    seek_found (sessions_view t) c.args.last c.loop.counter c.loop.pti (sessions_full t) (sym c.if-not-is_waiting.ensures) c.loop.invariant
 
 pub loop-preserved : goal.loop-preserved
 loop-preserved c =
@@ -25,7 +20,7 @@ loop-preserved c =
 pub returns : goal.returns
 returns c =
     let t = c.args.self.now in
-    let full = length-map t.records session_view ∙ t.full in
+    let full = sessions_full t in
     let free = seek_end (sessions_view t) c.args.last c.loop.counter c.loop.pti full (omega arith) c.loop.invariant in
     record {
       first = seek_found (sessions_view t) c.args.last c.loop.counter c.loop.pti full free c.loop.invariant;
