@@ -1,6 +1,7 @@
 -- Every running bar of a handset's timers has seconds that can be kept, from the switch-on on.
 use Rattle.std.proofs.Common.{◌≡◌, ℕ, zero, suc, ◌-◌, ◌<◌, Bool, true, false, cond, ◌&&◌, eqb, ltb, leb, List, [], ◌∷◌, map, set, Some, None, Option, sym, refl, ap, ◌∙◌, ⊎_elim, arith}
 use Rattle.std.specs.Str.{bytes_eq}
+use Rattle.std.proofs.lemmas.Option.{none-some}
 use Rattle.std.proofs.lemmas.Bool.{cases_Bool, cond-true, cond-false, cond_both, and_parts, and_from, ltb-true, leb-true, le-leb}
 use Rattle.backoff.specs.declared.octet.TimerValue.{TimerValue}
 use Rattle.backoff.specs.declared.octet.TimerValue.TheVariants as value
@@ -16,7 +17,6 @@ use Rattle.session.specs.declared.timers.TimerRule.{TimerRule}
 use Rattle.session.specs.declared.timers.TimerRule.TheVariants.{NoMark, Mark, LiftAll}
 use Rattle.bar_record.specs.Record.{Kept, key_kept, seconds_kept, lawful}
 use Rattle.bar_record.specs.Reading.{told}
-use Rattle.bar_record.proofs.Standing.{inner, not_none}
 use Rattle.bar_record.proofs.Telling.{told_lawful}
 use Rattle.keys.specs.KeyParts.{name_key, slice_name_key, slice_key}
 use Rattle.timers.specs.Timers.{TimersView, no_timers, counted_timers, activated_timers, set_on, marked, ruled}
@@ -138,16 +138,16 @@ with_kept_seconds v t law p =
 
 loaded_one : (r : List ℕ) (rs : List (List ℕ)) (t t' : TimersView) → EachKept t → ((u : TimersView) → EachKept u → loaded rs u ≡ Some t' → EachKept t')
     → (o : Option Kept) → told r ≡ o → and_then (loaded rs) (with_record o t) ≡ Some t' → EachKept t'
-loaded_one r rs t t' p ih None is e = absurd (not_none e)
+loaded_one r rs t t' p ih None is e = cc
 loaded_one r rs t t' p ih (Some v) is e =
     ⊎_elim
     (λ ok. ih (with_kept v t) (with_kept_seconds v t (told_lawful r v is).0 p) (sym (ap (and_then (loaded rs)) (cond-true (takes_kept v t) (Some (with_kept v t)) None ok)) ∙ e))
-    (λ no_place. absurd (not_none (sym (ap (and_then (loaded rs)) (cond-false (takes_kept v t) (Some (with_kept v t)) None no_place)) ∙ e)))
+    (λ no_place. absurd (none-some _ (sym (ap (and_then (loaded rs)) (cond-false (takes_kept v t) (Some (with_kept v t)) None no_place)) ∙ e)))
     (cases_Bool (takes_kept v t))
 
 loaded_seconds : (rs : List (List ℕ)) (t t' : TimersView) → EachKept t → loaded rs t ≡ Some t' → EachKept t'
 loaded_seconds [] t t' p e =
-    let same : t ≡ t' = inner e in
+    let same : t ≡ t' = cc in
     record { t3396 = ap (λ u. bars_seconds_kept u.t3396) (sym same) ∙ p.t3396; t3584 = ap (λ u. bars_seconds_kept u.t3584) (sym same) ∙ p.t3584; t3585 = ap (λ u. bars_seconds_kept u.t3585) (sym same) ∙ p.t3585 }
 loaded_seconds (r ∷ rs) t t' p e = loaded_one r rs t t' p (λ u q h. loaded_seconds rs u t' q h) (told r) refl e
 
@@ -157,7 +157,7 @@ loaded_set_seconds card records t e =
     (λ h.
     let p = loaded_seconds (last_records (trailer_count records) records) no_timers t (each_kept no_timers start_seconds) (sym (cond-true _ _ _ h) ∙ e) in
     all_from t p.t3396 p.t3584 p.t3585)
-    (λ h. absurd (not_none (sym (cond-false _ _ _ h) ∙ e)))
+    (λ h. absurd (none-some t (sym (cond-false _ _ _ h) ∙ e)))
     (cases_Bool (bytes_eq card (trailer_card records) && leb (trailer_count records) trailer_number))
 
 or_none_seconds : (o : Option TimersView) → ((t : TimersView) → o ≡ Some t → all_seconds_kept t ≡ true) → all_seconds_kept (or_none o) ≡ true
