@@ -117,9 +117,6 @@ kept_claims i vs v t rule is l a b c h =
 live_active : (v w : SessionView) → active v.state ≡ true → inactive w.state ≡ false → w.request_type ≡ v.request_type → live v ≡ live w
 live_active v w a n e = grind arith
 
-lawful_leaving : (v w : SessionView) (p : ℕ) → lawful_session v ≡ true → waiting_pti w ≡ Some p → is_pti p ≡ true → lawful_parts w.request_type w.slice w.name ≡ true → lawful_session w ≡ true
-lawful_leaving v w p h e f g = and_from (lawful_waiting (waiting_pti w)) (lawful_parts w.request_type w.slice w.name) (ap lawful_waiting e ∙ f) g
-
 module _ (s : StateView) (i n p : ℕ) (next : Some p ≡ next_free s.sessions s.last_pti) (pti : is_pti p ≡ true)
     (d : all_differ (waiting_ptis s.sessions) ≡ true) (a : all_lawful s.sessions ≡ true) (c : claims_fit s.timers s.sessions ≡ true) where
   same_parts : (v : SessionView) → session_of i s.sessions ≡ Some v → lawful_parts v.request_type v.slice v.name ≡ true
