@@ -1,6 +1,7 @@
 -- A lawful set is restored, and nothing else is.
 use Rattle.std.proofs.Common.{◌≡◌, ℕ, ◌+◌, ◌≤◌, Bool, true, false, cond, not, ◌&&◌, ◌||◌, eqb, ltb, leb, ◌⊎◌, List, [], ◌∷◌, map, length, Some, None, Option, sym, refl, ap, ◌∙◌, subst, inl, inr, ⊎_elim, arith}
 use Rattle.std.specs.Str.{bytes_eq}
+use Rattle.std.proofs.lemmas.Option.{none-some}
 use Rattle.std.proofs.lemmas.Slice.Eq.{bytes_eq-Decides}
 use Rattle.std.proofs.lemmas.List.Sums.{count_by-le-length}
 use Rattle.std.proofs.lemmas.Bool.{cases_Bool, cases_eq, cond-true, cond-false, eqb-true, eq-eqb, ne_eqb, lt-ltb, le-leb, leb-true, and_parts, and_from, or_parts, not-true, both_ways}
@@ -13,7 +14,6 @@ use Rattle.bars.specs.Bars.{stands, timer_on, apart, standing}
 use Rattle.bars.specs.Sizes.{place_count}
 use Rattle.bar_record.specs.Record.{Kept, written, lawful}
 use Rattle.bar_record.specs.Reading.{told}
-use Rattle.bar_record.proofs.Standing.{not_none}
 use Rattle.bar_record.proofs.Telling.{told_written, told_lawful}
 use Rattle.keys.specs.KeyParts.{name_key, slice_name_key, slice_key}
 use Rattle.timers.specs.Timers.{TimersView, no_parts, no_timers}
@@ -157,11 +157,11 @@ module _ (r : List ℕ) (rs : List (List ℕ)) (t t' : TimersView) (good : Good 
       }
 
   told_one : (o : Option Kept) → told r ≡ o → and_then (loaded rs) (with_record o t) ≡ Some t' → ToldSet t (r ∷ rs)
-  told_one None is e = absurd (not_none e)
+  told_one None is e = cc
   told_one (Some v) is e =
       ⊎_elim
       (λ ok. told_more v is ok (sym (ap (and_then (loaded rs)) (cond-true (takes_kept v t) (Some (with_kept v t)) None ok)) ∙ e))
-      (λ no_place. absurd (not_none (sym (ap (and_then (loaded rs)) (cond-false (takes_kept v t) (Some (with_kept v t)) None no_place)) ∙ e)))
+      (λ no_place. absurd (none-some _ (sym (ap (and_then (loaded rs)) (cond-false (takes_kept v t) (Some (with_kept v t)) None no_place)) ∙ e)))
       (cases_Bool (takes_kept v t))
 
 pub load_only : (rs : List (List ℕ)) (t t' : TimersView) → Good t → loaded rs t ≡ Some t' → ToldSet t rs
@@ -272,7 +272,7 @@ module _ (card : List ℕ) (records : List (List ℕ)) where
           once = F.once;
         },
       ))
-      (λ h. absurd (not_none (sym (cond-false _ _ _ h) ∙ e)))
+      (λ h. absurd (none-some t (sym (cond-false _ _ _ h) ∙ e)))
       (cases_Bool (bytes_eq card (trailer_card records) && leb (trailer_count records) trailer_number))
 
   of_none : (o : Option TimersView) → kept_timers card records ≡ o → ((bars : List Kept) → LawfulSet card records bars → ⊥) → o ≡ None

@@ -6,4 +6,3 @@ pub mod Returns
 pub mod Views
 pub mod OfKinds
 pub mod Exact
-pub mod Seconds

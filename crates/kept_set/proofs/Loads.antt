@@ -1,9 +1,9 @@
 -- Loading records one after the other.
-use Rattle.std.proofs.Common.{◌≡◌, ℕ, suc, ◌+◌, ◌-◌, ◌<◌, ◌≤◌, List, [], ◌∷◌, length, get_or, take, drop, Some, None, sym, ap, ◌∙◌, arith}
+use Rattle.std.proofs.Common.{◌≡◌, ℕ, suc, ◌+◌, ◌-◌, ◌<◌, List, [], ◌∷◌, length, get_or, take, drop, Some, None, sym, ap, ◌∙◌, arith}
 use Rattle.std.proofs.lemmas.List.{drop_more}
 use Rattle.timers.specs.Timers.{TimersView}
 use Rattle.bar_record.specs.Reading.{told}
-use Rattle.kept_set.specs.Trailer.{trailer_number, last_records}
+use Rattle.kept_set.specs.Trailer.{trailer_number}
 use Rattle.kept_set.specs.Loading.{with_record, and_then, loaded}
 
 -- the records from a number up to the trailer, one less at the front
@@ -23,14 +23,3 @@ module _ (records : List (List ℕ)) (i : ℕ) (t : TimersView) (long : trailer_
 
   pub loaded_not : None ≡ with_record (told (get_or records i [])) t → None ≡ loaded (take (trailer_number - i) (drop i records)) t
   loaded_not e = sym (left_over ∙ ap (and_then (loaded (take (trailer_number - (i + 1)) (drop (i + 1) records)))) (sym e))
-
-pub loaded_all : (records : List (List ℕ)) (i : ℕ) (t : TimersView) → trailer_number ≤ i → Some t ≡ loaded (take (trailer_number - i) (drop i records)) t
-loaded_all records i t h =
-    let none : trailer_number - i ≡ 0 = omega arith in
-    sym (ap (λ m. loaded (take m (drop i records)) t) none)
-
-pub loaded_start : (records : List (List ℕ)) (n : ℕ) (t t₀ : TimersView) → n ≤ trailer_number → t ≡ t₀
-    → loaded (take (trailer_number - (trailer_number - n)) (drop (trailer_number - n) records)) t ≡ loaded (last_records n records) t₀
-loaded_start records n t t₀ h e =
-    let back : trailer_number - (trailer_number - n) ≡ n = omega arith in
-    ap (loaded (take (trailer_number - (trailer_number - n)) (drop (trailer_number - n) records))) e ∙ ap (λ m. loaded (take m (drop (trailer_number - n) records)) t₀) back

@@ -1,6 +1,5 @@
 -- Storing records one in front of the other, and the trailer behind them.
 use Rattle.std.proofs.Common.{◌≡◌, ℕ, ◌+◌, ◌-◌, ◌<◌, ◌≤◌, Bool, true, false, cond, List, [], ◌∷◌, ◌++◌, map, length, get_or, take, drop, set, replicate, IfSome, Some, None, Option, sym, refl, ap, ◌∙◌, subst, append_assoc, arith}
-use Rattle.std.proofs.lemmas.List.FromFn.{length-map-range_with_len}
 use Rattle.std.proofs.lemmas.List.{drop_more, drop_all, take_more, set_at, length-map, length-append, length-drop, length-take-le, take-append-drop, nil_from_length}
 use Rattle.std.proofs.lemmas.Bool.{cond-true, and_from, lt-ltb, eq-eqb}
 use Rattle.std.specs.Option.{option_map}
@@ -11,7 +10,7 @@ use Rattle.bars.specs.declared.bar.Bar.{Bar}
 use Rattle.bars.specs.Sizes.{place_count}
 use Rattle.bar_record.specs.declared.lawful.LawfulBar.{LawfulBar}
 use Rattle.bar_record.specs.Lawful.{lawful_view}
-use Rattle.bar_record.specs.Record.{Kept, octet_at, written, seconds_kept}
+use Rattle.bar_record.specs.Record.{Kept, written, seconds_kept}
 use Rattle.timers.specs.Timers.{TimersView}
 use Rattle.timers.specs.Kept.{kept_timer, kept_bar, kept_places}
 use Rattle.keeper.specs.Records.{records_after}
@@ -19,17 +18,10 @@ use Rattle.keeper.specs.Sizes.{record_count, record_length}
 use Rattle.kept_set.specs.Trailer.{trailer_number, trailer}
 use Rattle.kept_set.specs.Storing.{kept_before, running_bars, kept_bars, stored_bars, number_before, put_before}
 
-pub written_length : (v : Kept) → length (written v) ≡ record_length
-written_length v = length-map-range_with_len (octet_at v) 0 128
-
 -- a record of a lawful number and length is written
 pub record_written : (records : List (List ℕ)) (number : ℕ) (content new : List ℕ) → number < record_count → content ≡ new → length new ≡ record_length → records_after records number content ≡ set records number new
 record_written records number content new h e long =
     ap (records_after records number) e ∙ cond-true _ (set records number new) records (and_from _ _ (lt-ltb number record_count h) (eq-eqb (length new) record_length long))
-
--- eight octets and one more in front of zeros are a trailer
-pub trailer_made : (card octets : List ℕ) (n : ℕ) → octets ≡ card → length card ≡ 8 → set (octets ++ replicate 120 0) 8 n ≡ trailer card n
-trailer_made card octets n e full = ap (λ xs. set (xs ++ replicate 120 0) 8 n) e ∙ set_at card 0 (replicate 119 0) n 8 full
 
 -- what is there, of a row in which it may be missing
 abbrev pub before : Option Kept → List Kept → List Kept
@@ -174,17 +166,15 @@ put_end old ps i first records vs e f inv =
 -- the records of the bars, and then the trailer, are the stored set
 pub all_stored : (old records : List (List ℕ)) (card : List ℕ) (vs : List Kept) (first n : ℕ) → length old ≡ record_count → first + length vs ≡ trailer_number → n ≡ trailer_number - first
     → records ≡ take first old ++ (map written vs ++ drop trailer_number old)
-    → (n ≡ length vs) × (set records trailer_number (trailer card n) ≡ stored_bars card vs old)
+    → set records trailer_number (trailer card n) ≡ stored_bars card vs old
 all_stored old records card vs first n long c e are =
     let size : n ≡ length vs = omega arith in
     let start : first ≡ trailer_number - length vs = omega arith in
-    let put = trailer_put old (map written vs) first (trailer card n) long (ap (λ m. first + m) (length-map vs written) ∙ c) in (
-      size,
-      ap (λ rs. set rs trailer_number (trailer card n)) are
-          ∙ put
-          ∙ ap (λ m. take m old ++ (map written vs ++ trailer card n ∷ [])) start
-          ∙ ap (λ m. take (trailer_number - length vs) old ++ (map written vs ++ trailer card m ∷ [])) size,
-    )
+    let put = trailer_put old (map written vs) first (trailer card n) long (ap (λ m. first + m) (length-map vs written) ∙ c) in
+    ap (λ rs. set rs trailer_number (trailer card n)) are
+    ∙ put
+    ∙ ap (λ m. take m old ++ (map written vs ++ trailer card n ∷ [])) start
+    ∙ ap (λ m. take (trailer_number - length vs) old ++ (map written vs ++ trailer card m ∷ [])) size
 
 pub trailer_length : (card : List ℕ) (n : ℕ) → length card ≡ 8 → length (trailer card n) ≡ record_length
 trailer_length card n full = let l = length-append card (n ∷ replicate 119 0) in omega arith

@@ -24,25 +24,22 @@ use Rattle.requests.specs.State.{StateView}
 use Rattle.requests.specs.Wanted.{WantedView}
 use Rattle.requests.proofs.Rows.{placed, pending_put, lawful_put, lawful_at, live_same, live_before, fits_with}
 
-some_none : {B : Type 0} (q : Question) → ◌≡◌ {A = Option Question} (Some q) None → B
-some_none q e = absurd (let z : ◌≡◌ {A = ℕ} 0 1 = cc in omega arith)
-
 -- a request that is not stopped passed each question
 passed_first : (a b : Option Question) → or_else a b ≡ None → a ≡ None
 passed_first None b e = refl
-passed_first (Some q) b e = some_none q e
+passed_first (Some q) b e = cc
 
 passed_second : (a b : Option Question) → or_else a b ≡ None → b ≡ None
 passed_second None b e = e
-passed_second (Some q) b e = some_none q e
+passed_second (Some q) b e = cc
 
 passed_test : (t : Bool) (x : Option Question) (q : Question) → cond t x (Some q) ≡ None → (t ≡ true) × (x ≡ None)
 passed_test true x q e = (refl, e)
-passed_test false x q e = some_none q e
+passed_test false x q e = cc
 
 passed_room : (t : Bool) (q : Question) → cond t None (Some q) ≡ None → t ≡ true
 passed_room true q e = refl
-passed_room false q e = some_none q e
+passed_room false q e = cc
 
 few_let_out : (s : StateView) (n : ℕ) → let_out_stop s n ≡ None → s.tally.let_out < 1000000000
 few_let_out s n e = grind (arith, nat_tests)
@@ -59,20 +56,20 @@ pub record Found (o : Option SessionView) (test : SessionView → Bool) (s : Sta
   pub fewer : room n ≡ true
 
 pub modify_found : (s : StateView) (o : Option SessionView) (n : ℕ) → modify_on s o n ≡ None → Found o (λ v. active v.state) s n
-modify_found s None n e = some_none _ e
+modify_found s None n e = cc
 modify_found s (Some v) n e =
     let p = passed_test (active v.state) (or_else (own_timers_stop s v) (let_out_stop s n)) _ e in
     record { session = v; is = refl; fits = p.0; few = few_let_out s n (passed_second (own_timers_stop s v) (let_out_stop s n) p.1); fewer = few_waiting s n (passed_second (own_timers_stop s v) (let_out_stop s n) p.1) }
 
 pub release_found : (s : StateView) (o : Option SessionView) (n : ℕ) → release_on s o n ≡ None → Found o (λ v. active v.state) s n
-release_found s None n e = some_none _ e
+release_found s None n e = cc
 release_found s (Some v) n e =
     let p = passed_test (active v.state) (let_out_stop s n) _ e in
     record { session = v; is = refl; fits = p.0; few = few_let_out s n p.1; fewer = few_waiting s n p.1 }
 
 pub establish_found : (s : StateView) (o : Option SessionView) (w : WantedView) (n : ℕ) → establish_on s o w n ≡ None
     → Found o (λ v. inactive v.state) s n × (keys_stop s w ≡ None)
-establish_found s None w n e = some_none _ e
+establish_found s None w n e = cc
 establish_found s (Some v) w n e =
     let p = passed_test (inactive v.state) (or_else (keys_stop s w) (let_out_stop s n)) _ e in
     (record { session = v; is = refl; fits = p.0; few = few_let_out s n (passed_second (keys_stop s w) (let_out_stop s n) p.1); fewer = few_waiting s n (passed_second (keys_stop s w) (let_out_stop s n) p.1) }, passed_first (keys_stop s w) (let_out_stop s n) p.1)
@@ -119,9 +116,6 @@ kept_claims i vs v t rule is l a b c h =
 
 live_active : (v w : SessionView) → active v.state ≡ true → inactive w.state ≡ false → w.request_type ≡ v.request_type → live v ≡ live w
 live_active v w a n e = grind arith
-
-lawful_leaving : (v w : SessionView) (p : ℕ) → lawful_session v ≡ true → waiting_pti w ≡ Some p → is_pti p ≡ true → lawful_parts w.request_type w.slice w.name ≡ true → lawful_session w ≡ true
-lawful_leaving v w p h e f g = and_from (lawful_waiting (waiting_pti w)) (lawful_parts w.request_type w.slice w.name) (ap lawful_waiting e ∙ f) g
 
 module _ (s : StateView) (i n p : ℕ) (next : Some p ≡ next_free s.sessions s.last_pti) (pti : is_pti p ≡ true)
     (d : all_differ (waiting_ptis s.sessions) ≡ true) (a : all_lawful s.sessions ≡ true) (c : claims_fit s.timers s.sessions ≡ true) where
@@ -252,10 +246,3 @@ module _ (s : StateView) (i n p : ℕ) (w : WantedView) (next : Some p ≡ next_
         claims = ap (claims_fit s.timers) (at.goes rule) ∙ claims_asking at.place f.1;
         more = one_more i s.sessions v f.0.is rests rule refl;
       }
-
--- all that holds between the calls, once a request has left and is counted
-pub left_sound : (vs vs' new : List SessionView) (t : TimersView) (out ended : ℕ) → new ≡ vs' → Left vs vs' t → out < 1000000000 → out ≡ ended + pending vs
-    → (all_differ (waiting_ptis new) ≡ true) × ((all_lawful new ≡ true) × ((claims_fit t new ≡ true) × ((out + 1 ≤ 1000000000) × ((out + 1 ≡ ended + pending new) × Unit {0}))))
-left_sound vs vs' new t out ended e l few sums =
-    let more : pending new ≡ pending vs + 1 = ap pending e ∙ l.more in
-    (ap (λ x. all_differ (waiting_ptis x)) e ∙ l.differ, (ap all_lawful e ∙ l.lawful, (ap (claims_fit t) e ∙ l.claims, (omega arith, (omega arith, tt)))))

@@ -1,4 +1,3 @@
-mod Keys
 pub mod Admitted
 pub mod Rows
 pub mod Thinning

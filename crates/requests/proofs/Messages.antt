@@ -1,5 +1,5 @@
 -- The message of a waiting request is lawful, so it is written and can be sent.
-use Rattle.std.proofs.Common.{◌≡◌, ℕ, ◌-◌, ◌≤◌, Bool, true, false, cond, not, ◌&&◌, ◌||◌, eqb, leb, List, [], ◌∷◌, ◌++◌, length, take, drop, is_ok, Some, None, Ok, Err, Option, Result, sym, refl, ap, ◌∙◌, arith}
+use Rattle.std.proofs.Common.{◌≡◌, ℕ, ◌-◌, ◌≤◌, Bool, true, false, cond, not, ◌&&◌, ◌||◌, eqb, leb, List, [], ◌∷◌, ◌++◌, length, take, drop, Some, None, Ok, Err, Option, Result, sym, refl, ap, ◌∙◌, arith}
 use Rattle.std.proofs.lemmas.Bool.{and_parts, and_from}
 use Rattle.std.proofs.lemmas.Bool.Decides.{nat_tests}
 use Rattle.std.specs.Option.{option_map}
@@ -16,11 +16,9 @@ use Rattle.ul_nas.specs.Lawful.{lawful_slice, lawful_name, absent, lawful_elemen
 use Rattle.ul_nas.specs.Message.{Message, message, establishment_request, modification_request, release_request, emergency}
 use Rattle.ul_nas.specs.Format.{encoding}
 use Rattle.ul_nas.proofs.Longest.{longest, accepted}
-use Rattle.uplink.specs.declared.refusal.SendRefusal.{SendRefusal}
-use Rattle.uplink.specs.declared.refusal.SendRefusal.TheVariants.{Length, Full}
-use Rattle.uplink.specs.Waiting.{sendable, room, send_answer, after_send}
+use Rattle.uplink.specs.Waiting.{sendable, room, after_send}
 use Rattle.std.proofs.lemmas.List.{take_at}
-use Rattle.requests.specs.Sending.{sends, with_message}
+use Rattle.requests.specs.Sending.{with_message}
 use Rattle.requests.specs.Sound.{lawful_waiting, lawful_parts, all_lawful}
 use Rattle.requests.proofs.Rows.{placed, lawful_at}
 
@@ -30,7 +28,7 @@ identity_lawful i vs v e = tell (leb 1 i && leb i 15) e
   where
     tell : (b : Bool) → at_place vs (cond b (Some (i - 1)) None) ≡ Some v → b ≡ true
     tell true h = refl
-    tell false h = absurd (let z : ◌≡◌ {A = ℕ} 0 1 = cc in omega arith)
+    tell false h = cc
 
 present_slice : (xs : List ℕ) → (eqb (length xs) 0 || (eqb (length xs) 1 || (eqb (length xs) 2 || (eqb (length xs) 4 || (eqb (length xs) 5 || eqb (length xs) 8))))) ≡ true → lawful_slice (present xs) ≡ true
 present_slice [] h = refl
@@ -54,8 +52,8 @@ parts_lawful t slice name h =
 
 lawful_in : (i : ℕ) (v : SessionView) (s : State) (m : Message) → (leb 1 i && leb i 15) ≡ true → lawful_waiting (option_map (λ w. w.pti) (waiting_of s)) ≡ true
     → lawful_parts v.request_type v.slice v.name ≡ true → option_map (λ c. message i c.0 c.1) (request_in s v) ≡ Some m → lawful m ≡ true
-lawful_in i v Inactive m a b c e = absurd (let z : ◌≡◌ {A = ℕ} 0 1 = cc in omega arith)
-lawful_in i v Active m a b c e = absurd (let z : ◌≡◌ {A = ℕ} 0 1 = cc in omega arith)
+lawful_in i v Inactive m a b c e = cc
+lawful_in i v Active m a b c e = cc
 lawful_in i v (ActivePending w) m a b c e =
     let is : message i w.pti (establishment_request v.request_type (present v.slice) (present v.name)) ≡ m = cc in
     sym (ap lawful is) ∙ and_from (leb 1 i && leb i 15) _ a (and_from (leb 1 w.pti && leb w.pti 254) _ b (parts_lawful v.request_type v.slice v.name c))
@@ -70,7 +68,7 @@ pub waiting_lawful : (i : ℕ) (vs : List SessionView) (m : Message) → all_law
 waiting_lawful i vs m a e = on (session_of i vs) refl
   where
     on : (o : Option SessionView) → session_of i vs ≡ o → lawful m ≡ true
-    on None f = absurd (let z : ◌≡◌ {A = Option Message} None (Some m) = sym (ap (message_of i) f) ∙ e in let y : ◌≡◌ {A = ℕ} 0 1 = cc in omega arith)
+    on None f = cc (ap (message_of i) f)
     on (Some v) f =
         let p = placed i vs v f in
         let h = and_parts (lawful_waiting (waiting_pti v)) (lawful_parts v.request_type v.slice v.name) (lawful_at v v vs p.place p.there a) in
@@ -89,32 +87,15 @@ sends_lawful m h = let short = longest m h in let some = not_empty m in grind (a
 -- where nothing was written, no request waits
 pub not_written : (o : Option Message) (e : PendingRefusal) → ((m : Message) → o ≡ Some m → lawful m ≡ true) → ◌≡◌ {A = Result ℕ PendingRefusal} (Err e) (pending_answer o 128) → o ≡ None
 not_written None e good h = refl
-not_written (Some m) e good h = let w = written_all m (good m refl) in absurd (let z : ◌≡◌ {A = ℕ} 0 1 = cc in omega arith)
+not_written (Some m) e good h = let w = written_all m (good m refl) in cc
 
 -- what was written is sent where there is room
-pub record Sent (o : Option Message) (r : Result (Unit {0}) SendRefusal) (waiting waiting' : List (List ℕ)) : Type 0 where
-  pub answer : is_ok r ≡ sends o (length waiting)
-  pub queue : waiting' ≡ with_message o waiting
-
-ok_told : (b : Bool) (e : SendRefusal) → is_ok (cond b (Ok (tt {0})) (Err e)) ≡ b
-ok_told true e = refl
-ok_told false e = refl
-
-sent_octets : (m : Message) (r : Result (Unit {0}) SendRefusal) (waiting waiting' : List (List ℕ)) → lawful m ≡ true
-    → r ≡ send_answer (length waiting) (length (encoding m)) → waiting' ≡ after_send waiting (encoding m) → Sent (Some m) r waiting waiting'
-sent_octets m r waiting waiting' h er ew =
-    let fits = sends_lawful m h in
-    record {
-      answer = ap is_ok (er ∙ ap (λ b. cond b (cond (room (length waiting)) (Ok tt) (Err Full)) (Err Length)) fits) ∙ ok_told (room (length waiting)) Full;
-      queue = ew ∙ ap (λ b. cond (b && room (length waiting)) (waiting ++ encoding m ∷ []) waiting) fits;
-    }
-
-pub was_sent : (o : Option Message) (n : ℕ) (before after octets : List ℕ) (r : Result (Unit {0}) SendRefusal) (waiting waiting' : List (List ℕ))
+pub queued : (o : Option Message) (n : ℕ) (before after octets : List ℕ) (waiting waiting' : List (List ℕ))
     → ((m : Message) → o ≡ Some m → lawful m ≡ true) → ◌≡◌ {A = Result ℕ PendingRefusal} (Ok n) (pending_answer o 128) → after ≡ pending_buffer (Ok n) o before → octets ≡ take n after
-    → r ≡ send_answer (length waiting) (length octets) → waiting' ≡ after_send waiting octets → Sent o r waiting waiting'
-was_sent None n before after octets r waiting waiting' good a b part er ew = absurd (let z : ◌≡◌ {A = ℕ} 0 1 = cc in omega arith)
-was_sent (Some m) n before after octets r waiting waiting' good a b part er ew =
+    → waiting' ≡ after_send waiting octets → waiting' ≡ with_message o waiting
+queued None n before after octets waiting waiting' good a b part ew = cc
+queued (Some m) n before after octets waiting waiting' good a b part ew =
     let w = written_all m (good m refl) in
     let len : n ≡ length (encoding m) = cc in
     let is : octets ≡ encoding m = part ∙ ap (take n) b ∙ take_at (encoding m) (drop (length (encoding m)) before) n (sym len) in
-    sent_octets m r waiting waiting' (good m refl) (er ∙ ap (λ x. send_answer (length waiting) (length x)) is) (ew ∙ ap (after_send waiting) is)
+    ew ∙ ap (after_send waiting) is ∙ ap (λ b. cond (b && room (length waiting)) (waiting ++ encoding m ∷ []) waiting) (sends_lawful m (good m refl))

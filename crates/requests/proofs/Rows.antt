@@ -17,9 +17,6 @@ use Rattle.sessions.specs.Table.{place_of, at_place, session_of, put, changed}
 use Rattle.sessions.proofs.Steps.{length_with}
 use Rattle.requests.specs.Sound.{lawful_session, all_lawful}
 
-none_some : {A : Type 0} {B : Type 0} (x : A) → ◌≡◌ {A = Option A} None (Some x) → B
-none_some x e = absurd (let z : ◌≡◌ {A = ℕ} 0 1 = cc in omega arith)
-
 -- the session of an identity stands at a place, and a change of it is a change at that place
 pub record Placed (i : ℕ) (vs : List SessionView) (v : SessionView) : Type 0 where
   pub place : ℕ
@@ -30,7 +27,7 @@ pub placed : (i : ℕ) (vs : List SessionView) (v : SessionView) → session_of 
 placed i vs v e = at (place_of i) refl
   where
     at : (o : Option ℕ) → place_of i ≡ o → Placed i vs v
-    at None f = none_some v (sym (ap (at_place vs) f) ∙ e)
+    at None f = absurd (cc (ap (at_place vs) f))
     at (Some n) f =
         let here : slice_get vs n ≡ Some v = sym (ap (at_place vs) f) ∙ e in
         record {
@@ -38,9 +35,6 @@ placed i vs v e = at (place_of i) refl
           there = here;
           goes = λ rule. ap (λ o. put vs o (option_map rule (at_place vs o))) f ∙ ap (λ x. put vs (Some n) (option_map rule x)) here;
         }
-
-false_true : {B : Type 0} → ◌≡◌ {A = Bool} false true → B
-false_true e = absurd (let z : ◌≡◌ {A = ℕ} 0 1 = ap (λ b. cond b 1 0) e in omega arith)
 
 -- a key among others and one more, if that counts
 among_cond : (l : Bool) (q k : KeyOctets) (ks : List KeyOctets) → among q (cond l (k ∷ ks) ks) ≡ (l && same_key q k || among q ks)
@@ -56,7 +50,7 @@ or_step a c b b' h next = grind arith
 module _ (v w : SessionView) where
   -- the waiting requests: one fewer if the old session's waited, one more if the new one's does
   pub pending_put : (vs : List SessionView) (n : ℕ) → slice_get vs n ≡ Some v → pending (set vs n w) + cond (is_pending v) 1 0 ≡ pending vs + cond (is_pending w) 1 0
-  pending_put [] n e = none_some v e
+  pending_put [] n e = cc
   pending_put (x ∷ xs) zero e =
       let here : x ≡ v = cc in
       let a = length_with (waiting_pti w) (waiting_ptis xs) in
@@ -77,7 +71,7 @@ module _ (v w : SessionView) where
       and_from (lawful_session x) (all_lawful (set xs n w)) k.0 (lawful_put xs n h k.1)
 
   pub lawful_at : (vs : List SessionView) (n : ℕ) → slice_get vs n ≡ Some v → all_lawful vs ≡ true → lawful_session v ≡ true
-  lawful_at [] n e a = none_some v e
+  lawful_at [] n e a = cc
   lawful_at (x ∷ xs) zero e a =
       let here : x ≡ v = cc in
       sym (ap lawful_session here) ∙ (and_parts (lawful_session x) (all_lawful xs) a).0
@@ -99,7 +93,7 @@ module _ (v w : SessionView) where
   -- a key that is claimed afterwards is the new session's, or was claimed before
   pub live_before : (key : SessionView → KeyOctets) (q : KeyOctets) (vs : List SessionView) (n : ℕ) → among q (live_keys key (set vs n w)) ≡ true
       → (live w && same_key q (key w) || among q (live_keys key vs)) ≡ true
-  live_before key q [] n h = false_true h
+  live_before key q [] n h = cc
   live_before key q (x ∷ xs) zero h =
       rw (among_cond (live x) q (key x) (live_keys key xs)) (or_into (live w && same_key q (key w)) (among q (live_keys key xs)) (live x && same_key q (key x)) (sym (among_cond (live w) q (key w) (live_keys key xs)) ∙ h))
   live_before key q (x ∷ xs) (suc n) h =
@@ -109,7 +103,7 @@ module _ (v w : SessionView) where
 
 -- the key of a live session is claimed
 pub live_among : (key : SessionView → KeyOctets) (v : SessionView) (vs : List SessionView) (n : ℕ) → slice_get vs n ≡ Some v → live v ≡ true → among (key v) (live_keys key vs) ≡ true
-live_among key v [] n e l = none_some v e
+live_among key v [] n e l = cc
 live_among key v (x ∷ xs) zero e l =
     let here : x ≡ v = cc in
     let self = laws.reflexive (key v) in
@@ -149,7 +143,7 @@ fits_with bs ks ks' h few =
 
 -- the session at a place after it was replaced
 nth_put : (vs : List SessionView) (n : ℕ) (v w : SessionView) → slice_get vs n ≡ Some v → slice_get (set vs n w) n ≡ Some w
-nth_put [] n v w e = absurd (let z : ◌≡◌ {A = ℕ} 0 1 = cc in omega arith)
+nth_put [] n v w e = cc
 nth_put (x ∷ xs) zero v w e = refl
 nth_put (x ∷ xs) (suc n) v w e = nth_put xs n v w e
 
@@ -158,5 +152,5 @@ pub session_changed : (i : ℕ) (rule : SessionView → SessionView) (vs : List 
 session_changed i rule vs v e = at (place_of i) e
   where
     at : (o : Option ℕ) → at_place vs o ≡ Some v → at_place (put vs o (option_map rule (at_place vs o))) o ≡ Some (rule v)
-    at None f = absurd (let z : ◌≡◌ {A = ℕ} 0 1 = cc in omega arith)
+    at None f = cc
     at (Some n) f = ap (λ x. slice_get (put vs (Some n) (option_map rule x)) n) f ∙ nth_put vs n v (rule v) f

@@ -1,14 +1,11 @@
 use Rattle.std.proofs.Common.{◌<◌, length, ap, ◌∙◌, arith}
 use Rattle.std.specs.Option.{option_map}
 use Rattle.bar_record.specs.Reading.{told}
-use Rattle.timers.specs.Timers.{timers_view, no_timers}
+use Rattle.timers.specs.Timers.{timers_view}
 use Rattle.kept_set.specs.Trailer.{trailer_number}
 use Rattle.kept_set.specs.Loading.{with_record}
-use Rattle.kept_set.proofs.Loads.{loaded_start, loaded_more, loaded_not, loaded_all}
+use Rattle.kept_set.proofs.Loads.{loaded_more, loaded_not}
 use Rattle.kept_set.proofs.load.load_last.Goals as goal
-
-pub loop-number-init : goal.loop-number-init
-loop-number-init g c = loaded_start (g.K.Keeper.records c.args.keeper.now) c.args.n (timers_view c.new-timers.result) no_timers c.requires c.new-timers.ensures
 
 pub loop-number-preserved : goal.loop-number-preserved
 loop-number-preserved g c =
@@ -27,8 +24,3 @@ returns-in_err-timers g c =
     let t = timers_view c.loop-number.timers in
     let read = c.in_err-timers.ensures ∙ ap (λ r. with_record (told r) t) c.record_at.ensures in
     ap (option_map timers_view) c.from_residual.ensures ∙ loaded_not records c.loop-number.number t long c.loop-number-test.true read ∙ c.loop-number.invariant
-
-pub returns : goal.returns
-returns g c =
-    let records = g.K.Keeper.records c.args.keeper.now in
-    loaded_all records c.loop-number.number (timers_view c.loop-number.timers) c.loop-number-test.false ∙ c.loop-number.invariant

@@ -17,17 +17,14 @@ loop-place-init g c =
     let size = full t in
     put_none (g.K.Keeper.records c.args.keeper.now) (kept_places (timers_view t)) 96 (omega arith)
 
-pub put_before-first-requires : goal.put_before-first-requires
-put_before-first-requires g c =
+pub put_before-first-requires-clause-first : goal.put_before-first-requires-clause-first
+put_before-first-requires-clause-first g c =
     let t = c.args.timers.now in
     let old = g.K.Keeper.records c.args.keeper.now in
     let count = g.met.K.Keeper.count c.args.keeper.now in
     let inv = c.loop-place.invariant in
     let n = inv.count in
-    record {
-      first = put_room old (kept_places (timers_view t)) (full t) (omega arith) c.loop-place.place c.loop-place.first (g.K.Keeper.records c.loop-place.keeper) (omega arith) (omega arith) inv c.running_at.result c.running_at.ensures;
-      last = omega arith;
-    }
+    put_room old (kept_places (timers_view t)) (full t) (omega arith) c.loop-place.place c.loop-place.first (g.K.Keeper.records c.loop-place.keeper) (omega arith) (omega arith) inv c.running_at.result c.running_at.ensures
 
 pub loop-place-preserved : goal.loop-place-preserved
 loop-place-preserved g c =

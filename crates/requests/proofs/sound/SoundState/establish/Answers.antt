@@ -1,11 +1,9 @@
-use Rattle.std.proofs.Common.{◌∙◌}
-use Rattle.std.proofs.lemmas.List.{length-map}
-use Rattle.session.specs.Session.{session_view}
+use Rattle.sessions.proofs.Steps.{sessions_full}
 use Rattle.requests.specs.Decisions.{establish_stop}
 use Rattle.requests.specs.LettingOut.{let_out_establishment}
 use Rattle.requests.specs.SoundViews.{sound_view, lawful_view}
 use Rattle.requests.specs.State.{state_view}
-use Rattle.requests.proofs.Holding.{Holds, holds_asked, answered, holds_establishing}
+use Rattle.requests.proofs.Holding.{held, holds_asked, holds_establishing}
 use Rattle.requests.proofs.sound.SoundState.establish.Goals as goal
 
 pub invariant_of-self : goal.invariant_of-self
@@ -14,15 +12,8 @@ invariant_of-self c =
     let s = sound_view self in
     let i = c.args.identity in
     let n = c.args.waiting in
+    let w = lawful_view c.args.wanted.now in
     let e = c.establish.ensures in
-    let before : Holds s = record { differ = self.differ; lawful = self.lawful; claims = self.claims; few = self.few; sums = self.sums } in
-    let after : Holds (state_view c.establish.new.self) =
-    holds_asked c.establish.result (establish_stop s i (lawful_view c.args.wanted.now) n) (let_out_establishment i (lawful_view c.args.wanted.now)) s (state_view c.establish.new.self) e.stop e.pti e.state before
-    (holds_establishing s i n before (lawful_view c.args.wanted.now) c.args.wanted.now.lawful (length-map self.plain.sessions.records session_view ∙ self.plain.sessions.full)) in
+    let left = holds_establishing s i n (held self) w c.args.wanted.now.lawful (sessions_full self.plain.sessions) in
+    let after = holds_asked c.establish.result (establish_stop s i w n) (let_out_establishment i w) s (state_view c.establish.new.self) e.stop e.pti e.state (held self) left in
     record { differ = after.differ; lawful = after.lawful; claims = after.claims; few = after.few; sums = after.sums }
-
-pub returns : goal.returns
-returns c =
-    let s = sound_view c.args.self.now in
-    let e = c.establish.ensures in
-    record { answer = answered c.establish.result (establish_stop s c.args.identity (lawful_view c.args.wanted.now) c.args.waiting) s e.stop e.pti; state = e.state }

@@ -2,7 +2,7 @@ use Rattle.requests.specs.Decisions.{modify_stop}
 use Rattle.requests.specs.LettingOut.{let_out_modification}
 use Rattle.requests.specs.SoundViews.{sound_view}
 use Rattle.requests.specs.State.{state_view}
-use Rattle.requests.proofs.Holding.{Holds, holds_asked, answered, holds_modifying}
+use Rattle.requests.proofs.Holding.{held, holds_asked, holds_modifying}
 use Rattle.requests.proofs.sound.SoundState.modify.Goals as goal
 
 pub invariant_of-self : goal.invariant_of-self
@@ -12,14 +12,5 @@ invariant_of-self c =
     let i = c.args.identity in
     let n = c.args.waiting in
     let e = c.modify.ensures in
-    let before : Holds s = record { differ = self.differ; lawful = self.lawful; claims = self.claims; few = self.few; sums = self.sums } in
-    let after : Holds (state_view c.modify.new.self) =
-    holds_asked c.modify.result (modify_stop s i n) (let_out_modification i) s (state_view c.modify.new.self) e.stop e.pti e.state before
-    (holds_modifying s i n before) in
+    let after = holds_asked c.modify.result (modify_stop s i n) (let_out_modification i) s (state_view c.modify.new.self) e.stop e.pti e.state (held self) (holds_modifying s i n (held self)) in
     record { differ = after.differ; lawful = after.lawful; claims = after.claims; few = after.few; sums = after.sums }
-
-pub returns : goal.returns
-returns c =
-    let s = sound_view c.args.self.now in
-    let e = c.modify.ensures in
-    record { answer = answered c.modify.result (modify_stop s c.args.identity c.args.waiting) s e.stop e.pti; state = e.state }

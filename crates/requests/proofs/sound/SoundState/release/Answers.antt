@@ -2,7 +2,7 @@ use Rattle.requests.specs.Decisions.{release_stop}
 use Rattle.requests.specs.LettingOut.{let_out_release}
 use Rattle.requests.specs.SoundViews.{sound_view}
 use Rattle.requests.specs.State.{state_view}
-use Rattle.requests.proofs.Holding.{Holds, holds_asked, answered, holds_releasing}
+use Rattle.requests.proofs.Holding.{held, holds_asked, holds_releasing}
 use Rattle.requests.proofs.sound.SoundState.release.Goals as goal
 
 pub invariant_of-self : goal.invariant_of-self
@@ -12,14 +12,5 @@ invariant_of-self c =
     let i = c.args.identity in
     let n = c.args.waiting in
     let e = c.release.ensures in
-    let before : Holds s = record { differ = self.differ; lawful = self.lawful; claims = self.claims; few = self.few; sums = self.sums } in
-    let after : Holds (state_view c.release.new.self) =
-    holds_asked c.release.result (release_stop s i n) (let_out_release i) s (state_view c.release.new.self) e.stop e.pti e.state before
-    (holds_releasing s i n before) in
+    let after = holds_asked c.release.result (release_stop s i n) (let_out_release i) s (state_view c.release.new.self) e.stop e.pti e.state (held self) (holds_releasing s i n (held self)) in
     record { differ = after.differ; lawful = after.lawful; claims = after.claims; few = after.few; sums = after.sums }
-
-pub returns : goal.returns
-returns c =
-    let s = sound_view c.args.self.now in
-    let e = c.release.ensures in
-    record { answer = answered c.release.result (release_stop s c.args.identity c.args.waiting) s e.stop e.pti; state = e.state }

@@ -1,19 +1,17 @@
-use Rattle.std.proofs.Common.{◌≡◌, ◌-◌, length, take, drop, sym, ap, ◌∙◌, arith}
+use Rattle.std.proofs.Common.{◌≡◌, ◌-◌, length, take, drop, sym, ap, arith}
 use Rattle.sessions.specs.Table.{sessions_view}
 use Rattle.requests.specs.Sending.{waiting_message, sends, with_message}
 use Rattle.requests.specs.SoundViews.{sound_view}
-use Rattle.requests.proofs.Messages.{waiting_lawful, not_written, was_sent}
+use Rattle.requests.proofs.Messages.{waiting_lawful, not_written, queued}
 use Rattle.requests.proofs.sound.SoundState.send_pending.Goals as goal
 
-pub returns-in-Ok : goal.returns-in-Ok
-returns-in-Ok g c =
+pub returns-in-Ok-clause-queue : goal.returns-in-Ok-clause-queue
+returns-in-Ok-clause-queue g c =
     let self = c.args.self.now in
-    let o = waiting_message c.args.identity (sound_view self) in
     let from_zero : c.in-Ok.n - 0 ≡ c.in-Ok.n = omega arith in
-    let s = was_sent o c.in-Ok.n _ c.write_pending.new.out (take (c.in-Ok.n - 0) (drop 0 c.write_pending.new.out)) c.send.result (g.U.Uplink.waiting c.args.uplink.now) (g.U.Uplink.waiting c.send.new.self)
+    queued (waiting_message c.args.identity (sound_view self)) c.in-Ok.n _ c.write_pending.new.out (take (c.in-Ok.n - 0) (drop 0 c.write_pending.new.out)) (g.U.Uplink.waiting c.args.uplink.now) (g.U.Uplink.waiting c.send.new.self)
     (λ m e. waiting_lawful c.args.identity (sessions_view self.plain.sessions) m self.lawful e)
-    c.in-Ok.ensures.answer c.in-Ok.ensures.buffer (ap (λ k. take k c.write_pending.new.out) from_zero) c.send.ensures.answer c.send.ensures.queue in
-    record { answer = c.is_ok.ensures.value ∙ s.answer; queue = s.queue }
+    c.in-Ok.ensures.answer c.in-Ok.ensures.buffer (ap (λ k. take k c.write_pending.new.out) from_zero) c.send.ensures.queue
 
 pub returns-in-Err : goal.returns-in-Err
 returns-in-Err g c =
