@@ -23,6 +23,11 @@ impl fmt::Display for Part<'_> {
     }
 }
 
+// The octets of a part, to be printed.
+fn part(octets: &[u8]) -> Part<'_> {
+    Part { octets }
+}
+
 // A kept bar, by the timer of its kind, its key and its seconds left.
 #[derive(Clone, Copy)]
 struct KeptWords {
@@ -34,30 +39,18 @@ impl fmt::Display for KeptWords {
         let seconds = self.bar.seconds;
         match &self.bar.key {
             KeptKey::T3396(key) => {
-                let name = Part {
-                    octets: key.name.octets(),
-                };
+                let name = part(key.name.octets());
                 write!(f, "T3396 name {name}")?;
             }
             KeptKey::T3584(key) => {
-                let network = Part {
-                    octets: key.network.octets(),
-                };
-                let slice = Part {
-                    octets: key.slice.octets(),
-                };
-                let name = Part {
-                    octets: key.name.octets(),
-                };
+                let network = part(key.network.octets());
+                let slice = part(key.slice.octets());
+                let name = part(key.name.octets());
                 write!(f, "T3584 network {network} slice {slice} name {name}")?;
             }
             KeptKey::T3585(key) => {
-                let network = Part {
-                    octets: key.network.octets(),
-                };
-                let slice = Part {
-                    octets: key.slice.octets(),
-                };
+                let network = part(key.network.octets());
+                let slice = part(key.slice.octets());
                 write!(f, "T3585 network {network} slice {slice}")?;
             }
         }
