@@ -24,7 +24,7 @@ impl fmt::Display for Part<'_> {
 }
 
 // The octets of a part, to be printed.
-fn part(octets: &[u8]) -> Part<'_> {
+fn shown(octets: &[u8]) -> Part<'_> {
     Part { octets }
 }
 
@@ -39,18 +39,18 @@ impl fmt::Display for KeptWords {
         let seconds = self.bar.seconds;
         match &self.bar.key {
             KeptKey::T3396(key) => {
-                let name = part(key.name.octets());
+                let name = shown(key.name.octets());
                 write!(f, "T3396 name {name}")?;
             }
             KeptKey::T3584(key) => {
-                let network = part(key.network.octets());
-                let slice = part(key.slice.octets());
-                let name = part(key.name.octets());
+                let network = shown(key.network.octets());
+                let slice = shown(key.slice.octets());
+                let name = shown(key.name.octets());
                 write!(f, "T3584 network {network} slice {slice} name {name}")?;
             }
             KeptKey::T3585(key) => {
-                let network = part(key.network.octets());
-                let slice = part(key.slice.octets());
+                let network = shown(key.network.octets());
+                let slice = shown(key.slice.octets());
                 write!(f, "T3585 network {network} slice {slice}")?;
             }
         }
