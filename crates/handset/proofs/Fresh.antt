@@ -43,15 +43,3 @@ fresh_claims t =
     let f = view_full t in
     and_from (leb (claimed (timers_view t).t3396 []) place_count) _ (bars_fit (timers_view t).t3396 f.t3396)
     (and_from (leb (claimed (timers_view t).t3584 []) place_count) (leb (claimed (timers_view t).t3585 []) place_count) (bars_fit (timers_view t).t3584 f.t3584) (bars_fit (timers_view t).t3585 f.t3585))
-
--- at most 32 bars of each kind stand
-pub standing_few : (t : Timers) → standing_in (timers_view t) ≤ 96
-standing_few t =
-    let f = view_full t in
-    let a = count_by-le-length (λ b. stands b.timer) (timers_view t).t3396 in
-    let b = count_by-le-length (λ b. stands b.timer) (timers_view t).t3584 in
-    let c = count_by-le-length (λ b. stands b.timer) (timers_view t).t3585 in
-    let fa = f.t3396 in
-    let fb = f.t3584 in
-    let fc = f.t3585 in
-    omega arith
