@@ -1,6 +1,5 @@
 -- What holds of a handset that was just switched on.
 use Rattle.std.proofs.Common.{◌≡◌, suc, ◌+◌, ◌≤◌, Bool, true, false, cond, leb, List, [], ◌∷◌, ◌++◌, length, replicate, ap, append-nil, arith}
-use Rattle.std.proofs.lemmas.List.Sums.{count_by-le-length}
 use Rattle.std.proofs.lemmas.Bool.{and_from, le-leb}
 use Rattle.bars.specs.declared.bar.Bar.{Bar}
 use Rattle.bars.specs.Bars.{stands}
@@ -11,7 +10,6 @@ use Rattle.kept_set.proofs.Views.{view_full}
 use Rattle.requests.specs.Sound.{claims_fit}
 use Rattle.session.specs.Session.{unused}
 use Rattle.timers.specs.declared.timers.Timers.{Timers}
-use Rattle.timers.specs.Kept.{standing_in}
 use Rattle.timers.specs.Timers.{timers_view}
 
 distinct_few : (ks : List KeyOctets) → distinct ks ≤ length ks

@@ -1,18 +1,18 @@
 -- The message of a request that was let out is the newest waiting one.
-use Rattle.std.proofs.Common.{◌≡◌, ℕ, true, cond, List, [], ◌∷◌, ◌++◌, length, Some, None, Ok, Option, Result, refl, ap, ◌∙◌, arith}
-use Rattle.session.specs.Session.{SessionView, established, modified, released}
+use Rattle.std.proofs.Common.{◌≡◌, ℕ, true, cond, List, [], ◌∷◌, ◌++◌, length, Some, None, Ok, Option, Result, refl, ap, ◌∙◌}
+use Rattle.session.specs.Session.{SessionView, established}
 use Rattle.sessions.specs.Acts.{message_of}
 use Rattle.sessions.specs.Table.{session_of}
 use Rattle.ul_nas.specs.Format.{encoding}
-use Rattle.ul_nas.specs.Message.{Message, message, modification_request, release_request}
+use Rattle.ul_nas.specs.Message.{Message}
 use Rattle.uplink.specs.Waiting.{room}
-use Rattle.requests.specs.Decisions.{establish_stop, modify_stop, release_stop}
+use Rattle.requests.specs.Decisions.{establish_stop}
 use Rattle.requests.specs.Sending.{waiting_message, with_message}
 use Rattle.requests.specs.State.{StateView}
 use Rattle.requests.specs.Wanted.{WantedView}
-use Rattle.requests.specs.LettingOut.{let_out_of, let_out_establishment, let_out_modification, let_out_release}
+use Rattle.requests.specs.LettingOut.{let_out_of, let_out_establishment}
 use Rattle.requests.proofs.Rows.{session_changed}
-use Rattle.requests.proofs.Leaving.{establish_found, modify_found, release_found}
+use Rattle.requests.proofs.Leaving.{establish_found}
 use Rattle.requests.specs.declared.question.Question.{Question}
 use Rattle.rules.specs.Requests.{unless_stopped, asked_message}
 

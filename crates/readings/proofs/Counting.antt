@@ -1,5 +1,5 @@
 -- Seconds taken off the timers leave no more keys claimed.
-use Rattle.std.proofs.Common.{◌≡◌, ℕ, Bool, true, ◌||◌, leb, List, sym, refl, ap, ◌∙◌, arith}
+use Rattle.std.proofs.Common.{◌≡◌, ℕ, true, leb, List, sym, refl, ap, ◌∙◌}
 use Rattle.std.proofs.lemmas.Bool.{or_left, or_right}
 use Rattle.backoff.specs.declared.timer.BackOffTimer.{BackOffTimer}
 use Rattle.backoff.specs.declared.timer.BackOffTimer.TheVariants.{Stopped, Running, Deactivated}

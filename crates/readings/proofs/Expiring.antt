@@ -13,7 +13,6 @@ use Rattle.session.specs.Time.{expiry, waited, waits_on, counted, counted_expiry
 use Rattle.sessions.specs.Ptis.{some_pti, is_pending, pending}
 use Rattle.rules.specs.Reading.{is_given_up}
 use Rattle.ul_nas.specs.Message.{emergency}
-use Rattle.bars.specs.Claimed.{among, keys_of}
 use Rattle.requests.specs.declared.state.Tally.{Tally}
 use Rattle.requests.specs.State.{StateView}
 use Rattle.requests.proofs.Holding.{Holds}

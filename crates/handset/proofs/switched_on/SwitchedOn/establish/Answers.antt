@@ -1,9 +1,9 @@
-use Rattle.std.proofs.Common.{length, Ok, refl, ap, ◌∙◌}
+use Rattle.std.proofs.Common.{length, Ok, ap, ◌∙◌}
 use Rattle.requests.specs.Decisions.{establish_stop}
 use Rattle.requests.specs.LettingOut.{unless_stopped}
 use Rattle.requests.specs.Sending.{waiting_message, with_message}
 use Rattle.requests.specs.SoundViews.{sound_view, lawful_view}
-use Rattle.rules.specs.Requests.{establish_asked, establish_leaves, establish_sends}
+use Rattle.rules.specs.Requests.{establish_sends}
 use Rattle.handset.proofs.Sent.{sent_establishing, not_stopped}
 use Rattle.handset.proofs.switched_on.SwitchedOn.establish.Goals as goal
 

@@ -1,6 +1,6 @@
-use Rattle.std.proofs.Common.{length, Ok, sym, refl, ap, ◌∙◌}
+use Rattle.std.proofs.Common.{length, Ok, sym, ap, ◌∙◌}
 use Rattle.requests.specs.SoundViews.{sound_view}
-use Rattle.rules.specs.TakingIn.{taken, after_taken, replied, waiting_after_taken}
+use Rattle.rules.specs.TakingIn.{taken, replied, waiting_after_taken}
 use Rattle.handset.proofs.Replied.{reply_due, reply_queued}
 use Rattle.handset.proofs.switched_on.SwitchedOn.take_in.Goals as goal
 
