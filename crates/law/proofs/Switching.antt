@@ -52,7 +52,7 @@ module _ (before : List (List ℕ)) (h : List Moment) (s : StateView) (q rs : Li
   pub network_leads : (network : List ℕ) → length network ≡ 3 → Leads before h (change_network network) (on_step (change_network network) s (record { state = Some s; waiting = q; records = rs }))
   network_leads network long =
       let m : Moment = record { call = change_network network; answer = NetworkChanged; waiting = q } in
-      leads before h s q rs d (change_network network) NetworkChanged (Rattle.rules.specs.Power.network_changed network s) q refl refl
+      leads before h s q rs d (change_network network) NetworkChanged (Rattle.requests.specs.State.network_changed network s) q refl refl
       (no_event h s.sessions s.tally s.reading d.power.books m refl refl (λ i. refl) (tallied_none h s.tally d.power.books.tallied (change_network network) q (λ n was. refl) NetworkChanged refl (λ f e. refl) refl))
       (timed_network h s.sessions s.timers s.card s.network d.power.bars (full before h s q rs d) network NetworkChanged q long)
       d.few tt tt
@@ -135,7 +135,7 @@ module _ (before : List (List ℕ)) (h : List Moment) (q rs : List (List ℕ)) (
       let n = known_seconds off in
       let t = or_none (kept_timers card rs) in
       let sound = d.power.sound card card_long in
-      let book : Booked (m ∷ h) (replicate 15 unused) Rattle.rules.specs.Power.no_tally r = booked_fresh h card network r off a q in
+      let book : Booked (m ∷ h) (replicate 15 unused) Rattle.requests.specs.State.no_tally r = booked_fresh h card network r off a q in
       let sound' : (kind : TimerKind) → Sound kind (table kind (restored card off rs)) = λ kind. subst (Sound kind) (sym (counted_table kind n t)) (sound_counted kind n (table kind t) (sound kind)) in
       record {
         there = refl;
