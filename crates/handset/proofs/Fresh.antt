@@ -1,6 +1,5 @@
 -- What holds of a handset that was just switched on.
 use Rattle.std.proofs.Common.{◌≡◌, suc, ◌+◌, ◌≤◌, Bool, true, false, cond, leb, List, [], ◌∷◌, ◌++◌, length, replicate, ap, append-nil, arith}
-use Rattle.std.proofs.lemmas.List.Sums.{count_by-le-length}
 use Rattle.std.proofs.lemmas.Bool.{and_from, le-leb}
 use Rattle.bars.specs.declared.bar.Bar.{Bar}
 use Rattle.bars.specs.Bars.{stands}
@@ -11,7 +10,6 @@ use Rattle.kept_set.proofs.Views.{view_full}
 use Rattle.requests.specs.Sound.{claims_fit}
 use Rattle.session.specs.Session.{unused}
 use Rattle.timers.specs.declared.timers.Timers.{Timers}
-use Rattle.timers.specs.Kept.{standing_in}
 use Rattle.timers.specs.Timers.{timers_view}
 
 distinct_few : (ks : List KeyOctets) → distinct ks ≤ length ks
@@ -43,15 +41,3 @@ fresh_claims t =
     let f = view_full t in
     and_from (leb (claimed (timers_view t).t3396 []) place_count) _ (bars_fit (timers_view t).t3396 f.t3396)
     (and_from (leb (claimed (timers_view t).t3584 []) place_count) (leb (claimed (timers_view t).t3585 []) place_count) (bars_fit (timers_view t).t3584 f.t3584) (bars_fit (timers_view t).t3585 f.t3585))
-
--- at most 32 bars of each kind stand
-pub standing_few : (t : Timers) → standing_in (timers_view t) ≤ 96
-standing_few t =
-    let f = view_full t in
-    let a = count_by-le-length (λ b. stands b.timer) (timers_view t).t3396 in
-    let b = count_by-le-length (λ b. stands b.timer) (timers_view t).t3584 in
-    let c = count_by-le-length (λ b. stands b.timer) (timers_view t).t3585 in
-    let fa = f.t3396 in
-    let fb = f.t3584 in
-    let fc = f.t3585 in
-    omega arith

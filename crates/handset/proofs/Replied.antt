@@ -1,6 +1,7 @@
 -- A reply that is due is lawful, so it is written and sent.
 use Rattle.std.proofs.Common.{◌≡◌, ℕ, Bool, true, false, cond, not, ◌&&◌, leb, List, [], ◌∷◌, ◌++◌, length, take, drop, is_some, Some, None, Ok, Err, Option, Result, sym, refl, ap, ◌∙◌, arith}
 use Rattle.std.proofs.lemmas.List.{take_at}
+use Rattle.std.proofs.lemmas.Option.{none-some}
 use Rattle.std.proofs.lemmas.Bool.{and_parts, and_from}
 use Rattle.std.proofs.lemmas.Bool.Decides.{nat_tests}
 use Rattle.std.specs.Option.{option_map}
@@ -37,8 +38,8 @@ written_lawful m n h = on (lawful m) (leb (length (encoding m)) 128) h
   where
     on : (a b : Bool) → ◌≡◌ {A = Result ℕ WriteRefusal} (Ok n) (cond a (cond b (Ok (length (encoding m))) (Err Short)) (Err NotLawful)) → (a ≡ true) × (n ≡ length (encoding m))
     on true true e = (refl, (let same : n ≡ length (encoding m) = cc in same))
-    on true false e = absurd (let z : ◌≡◌ {A = ℕ} 0 1 = cc in omega arith)
-    on false b e = absurd (let z : ◌≡◌ {A = ℕ} 0 1 = cc in omega arith)
+    on true false e = absurd (cc)
+    on false b e = absurd (cc)
 
 pub reply_sent : (reply : Reply) (identity pti n : ℕ) (before out octets : List ℕ) (waiting waiting' : List (List ℕ))
     → ◌≡◌ {A = Result ℕ WriteRefusal} (Ok n) (write_answer (reply_message reply identity pti) 128) → out ≡ buffer_after (Ok n) (reply_message reply identity pti) before
@@ -83,7 +84,7 @@ reply_due s m waiting a reply told due = on (session_of m.identity s.sessions) r
   where
     with_room : (v : SessionView) (b : Bool) → (is_some (outcome_of v m).reply && not (room waiting)) ≡ b
         → ◌≡◌ {A = Result TakenIn TakeInRefusal} (Ok a) (cond b (Err Waiting) (Ok (did m v (outcome_of v m)))) → (a ≡ did m v (outcome_of v m)) × (b ≡ false)
-    with_room v true e f = absurd (let z : ◌≡◌ {A = ℕ} 0 1 = cc in omega arith)
+    with_room v true e f = absurd (cc)
     with_room v false e f = ((let same : a ≡ did m v (outcome_of v m) = cc in same), refl)
 
     room_left : (o : Option Reply) (x : Bool) → o ≡ Some reply → (is_some o && not x) ≡ false → x ≡ true
@@ -94,7 +95,7 @@ reply_due s m waiting a reply told due = on (session_of m.identity s.sessions) r
     on None e f =
         let same : a ≡ passed_over m.identity = cc in
         let none : ◌≡◌ {A = Option Reply} None (Some reply) = sym (ap (λ x. x.reply) same) ∙ due in
-        absurd (let z : ◌≡◌ {A = ℕ} 0 1 = cc in omega arith)
+        absurd (none-some reply none)
     on (Some v) e f =
         let w = with_room v (is_some (outcome_of v m).reply && not (room waiting)) refl f in
         let reply-is : (outcome_of v m).reply ≡ Some reply = sym (ap (λ x. x.reply) w.0) ∙ due in

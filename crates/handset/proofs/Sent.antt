@@ -1,18 +1,18 @@
 -- The message of a request that was let out is the newest waiting one.
-use Rattle.std.proofs.Common.{◌≡◌, ℕ, true, cond, List, [], ◌∷◌, ◌++◌, length, Some, None, Ok, Option, Result, refl, ap, ◌∙◌, arith}
-use Rattle.session.specs.Session.{SessionView, established, modified, released}
+use Rattle.std.proofs.Common.{◌≡◌, ℕ, true, cond, List, [], ◌∷◌, ◌++◌, length, Some, None, Ok, Option, Result, refl, ap, ◌∙◌}
+use Rattle.session.specs.Session.{SessionView, established}
 use Rattle.sessions.specs.Acts.{message_of}
 use Rattle.sessions.specs.Table.{session_of}
 use Rattle.ul_nas.specs.Format.{encoding}
-use Rattle.ul_nas.specs.Message.{Message, message, modification_request, release_request}
+use Rattle.ul_nas.specs.Message.{Message}
 use Rattle.uplink.specs.Waiting.{room}
-use Rattle.requests.specs.Decisions.{establish_stop, modify_stop, release_stop}
+use Rattle.requests.specs.Decisions.{establish_stop}
 use Rattle.requests.specs.Sending.{waiting_message, with_message}
 use Rattle.requests.specs.State.{StateView}
 use Rattle.requests.specs.Wanted.{WantedView}
-use Rattle.requests.specs.LettingOut.{let_out_of, let_out_establishment, let_out_modification, let_out_release}
+use Rattle.requests.specs.LettingOut.{let_out_of, let_out_establishment}
 use Rattle.requests.proofs.Rows.{session_changed}
-use Rattle.requests.proofs.Leaving.{establish_found, modify_found, release_found}
+use Rattle.requests.proofs.Leaving.{establish_found}
 use Rattle.requests.specs.declared.question.Question.{Question}
 use Rattle.rules.specs.Requests.{unless_stopped, asked_message}
 
@@ -30,19 +30,7 @@ module _ (s : StateView) (i pti : ℕ) (waiting : List (List ℕ)) where
       let f = (establish_found s (session_of i s.sessions) w (length waiting) e).0 in
       newest i (λ _. established w.request_type w.slice w.name s.network pti) pti s waiting f.session (asked_message i w pti) f.is refl f.fewer
 
-  pub sent_modifying : modify_stop s i (length waiting) ≡ None
-      → with_message (waiting_message i (let_out_modification i pti s)) waiting ≡ waiting ++ encoding (message i pti modification_request) ∷ []
-  sent_modifying e =
-      let f = modify_found s (session_of i s.sessions) (length waiting) e in
-      newest i (modified pti) pti s waiting f.session (message i pti modification_request) f.is refl f.fewer
-
-  pub sent_releasing : release_stop s i (length waiting) ≡ None
-      → with_message (waiting_message i (let_out_release i pti s)) waiting ≡ waiting ++ encoding (message i pti release_request) ∷ []
-  sent_releasing e =
-      let f = release_found s (session_of i s.sessions) (length waiting) e in
-      newest i (released pti) pti s waiting f.session (message i pti release_request) f.is refl f.fewer
-
 -- a request that was let out was not stopped
 pub not_stopped : (o : Option Question) (s : StateView) (pti : ℕ) → ◌≡◌ {A = Result ℕ Question} (Ok pti) (unless_stopped o s) → o ≡ None
 not_stopped None s pti e = refl
-not_stopped (Some q) s pti e = absurd (let z : ◌≡◌ {A = ℕ} 0 1 = cc in omega arith)
+not_stopped (Some q) s pti e = cc

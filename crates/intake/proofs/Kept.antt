@@ -1,6 +1,6 @@
 -- A message that is taken in keeps what holds between the calls.
 use Rattle.std.proofs.Common.{◌≡◌, ℕ, ◌+◌, Bool, true, false, cond, not, ◌&&◌, ◌||◌, ◌⊎◌, List, Some, None, Option, sym, refl, ap, ◌∙◌, inl, inr, ⊎_elim, arith}
-use Rattle.std.proofs.lemmas.Bool.{and_parts}
+use Rattle.std.proofs.lemmas.Bool.{and_parts, or_left, or_right}
 use Rattle.std.specs.Option.{option_map}
 use Rattle.backoff.specs.declared.octet.TimerValue.{TimerValue}
 use Rattle.backoff.specs.declared.octet.TimerValue.TheVariants as value
@@ -16,7 +16,7 @@ use Rattle.dl_nas.specs.declared.message.Received.{Received}
 use Rattle.requests.specs.declared.state.Tally.{Tally}
 use Rattle.requests.specs.Sound.{claims_fit}
 use Rattle.requests.proofs.Rows.{placed, live_among}
-use Rattle.requests.proofs.Thinning.{Thinner, or_first, or_either, claims_thinner, pending_thinner}
+use Rattle.requests.proofs.Thinning.{Thinner, or_either, claims_thinner, claims_thinned, pending_thinner}
 use Rattle.rules.specs.TakingIn.{tally_with}
 use Rattle.session.specs.declared.outcome.Ended.{Ended}
 use Rattle.session.specs.declared.outcome.Ended.TheVariants.{Accepted, Rejected, Returned, Overtaken, Nothing}
@@ -36,6 +36,7 @@ use Rattle.keys.specs.KeyParts.{name_key, slice_name_key, slice_key}
 use Rattle.session.specs.Session.{session_parts}
 use Rattle.timers.specs.Timers.{TimersView, set_on, ruled}
 use Rattle.ul_nas.specs.Message.{emergency}
+use Rattle.requests.proofs.Holding.{ended_in}
 use Rattle.intake.proofs.Lines.{thins, inactive_still, ends_told, effect_active}
 
 -- a bar that stands afterwards stood before or is on the marked key
@@ -57,7 +58,7 @@ module _ (k : KeyOctets) (bs : List (Bar KeyOctets)) (h : apart bs ≡ true) whe
   grows_lifted q e =
       let law = lifts k bs h in
       let stood : stands (cond (same_key q k) Stopped (timer_on bs q)) ≡ true = sym (ap stands (law.timers q)) ∙ (sym (among_standing q (lifted k bs)) ∙ e) in
-      rw (among_standing q bs) (or_first (stands (timer_on bs q)) (same_key k q) (stands_lifted (same_key q k) (timer_on bs q) stood))
+      rw (among_standing q bs) (or_left (stands (timer_on bs q)) (same_key k q) (stands_lifted (same_key q k) (timer_on bs q) stood))
 
   grows_set : (x : TimerValue) (q : KeyOctets) → among q (keys_of (set_on x k bs)) ≡ true → (among q (keys_of bs) || same_key k q) ≡ true
   grows_set value.Zero q e = grows_lifted q e
@@ -69,7 +70,7 @@ abbrev Grown : KeyOctets → List (Bar KeyOctets) → List (Bar KeyOctets) → T
 Grown k bs bs' = (q : KeyOctets) → among q (keys_of bs') ≡ true → (among q (keys_of bs) || same_key k q) ≡ true
 
 grown_still : (k : KeyOctets) (bs : List (Bar KeyOctets)) → Grown k bs bs
-grown_still k bs q e = or_first (among q (keys_of bs)) (same_key k q) e
+grown_still k bs q e = or_left (among q (keys_of bs)) (same_key k q) e
 
 pub record Apart (t : TimersView) : Type 0 where
   pub t3396 : apart t.t3396 ≡ true
@@ -93,11 +94,8 @@ grown_by LiftAll k t a =
 grown_live : (k : KeyOctets) (bs bs' : List (Bar KeyOctets)) (ks : List KeyOctets) → among k ks ≡ true → Grown k bs bs' → (q : KeyOctets) → among q (keys_of bs') ≡ true → (among q (keys_of bs) || among q ks) ≡ true
 grown_live k bs bs' ks here grown q e =
     or_either (among q (keys_of bs)) (same_key k q) (grown q e)
-    (λ a. or_first (among q (keys_of bs)) (among q ks) a)
-    (λ s. last (among q (keys_of bs)) (among q ks) (sym (among_same k q ks s) ∙ here))
-  where
-    last : (a b : Bool) → b ≡ true → (a || b) ≡ true
-    last a b f = grind arith
+    (λ a. or_left (among q (keys_of bs)) (among q ks) a)
+    (λ s. or_right (among q (keys_of bs)) (among q ks) (sym (among_same k q ks s) ∙ here))
 
 rule_live : (t : Bool) (r : TimerRule) (x y : Bool) → t ≡ (x && not y) → (cond t r NoMark ≡ NoMark) ⊎ ((x ≡ true) × (y ≡ false))
 rule_live false r x y e = inl refl
@@ -137,27 +135,16 @@ module _ (i : ℕ) (vs : List SessionView) (v : SessionView) (m : Received) (t :
       (grown_live (slice_key_of v) t.t3585 (ruled rule (session_parts v) t).t3585 (live_keys slice_key_of vs) (live_among slice_key_of v vs p.place p.there alive) g.t3585)
       c
 
-  claims_unmarked : claims_fit t (changed i (λ x. taken_in x m) vs) ≡ true
-  claims_unmarked =
-      claims_thinner i vs v (λ x. taken_in x m) is (thinner v m) t t
-      (λ q e. or_first (among q (keys_of t.t3396)) _ e)
-      (λ q e. or_first (among q (keys_of t.t3584)) _ e)
-      (λ q e. or_first (among q (keys_of t.t3585)) _ e)
-      c
-
   pub claims_taken : claims_fit (ruled (timer_rule v.request_type m (outcome_of v m).took_effect) (session_parts v) t) (changed i (λ x. taken_in x m) vs) ≡ true
   claims_taken =
       ⊎_elim
-      (λ none. ap (λ r. claims_fit (ruled r (session_parts v) t) (changed i (λ x. taken_in x m) vs)) none ∙ claims_unmarked)
+      (λ none. ap (λ r. claims_fit (ruled r (session_parts v) t) (changed i (λ x. taken_in x m) vs)) none ∙ claims_thinned i vs v (λ x. taken_in x m) is (thinner v m) t c)
       (λ both. claims_marked (timer_rule v.request_type m (outcome_of v m).took_effect) (live_from v (effect_active v m both.0) both.1))
       (rule_live ((outcome_of v m).took_effect && not (emergency v.request_type)) (message_rule m.content m.mm_cause m.outer_timer) (outcome_of v m).took_effect (emergency v.request_type) refl)
 
 -- the tally
 
-abbrev pub total : Tally → ℕ
-total t = t.accepted + t.rejected + t.returned + t.overtaken + t.given_up
-
-total_with : (e : Ended) (t : Tally) → total (tally_with e t) ≡ total t + cond (ends e) 1 0
+total_with : (e : Ended) (t : Tally) → ended_in (tally_with e t) ≡ ended_in t + cond (ends e) 1 0
 total_with Accepted t = omega arith
 total_with Rejected t = omega arith
 total_with Returned t = omega arith
@@ -175,11 +162,11 @@ waits_pti : (o : Option Waiting) → some_waits o ≡ some_pti (option_map (λ w
 waits_pti None = refl
 waits_pti (Some w) = refl
 
-pub sums_taken : (i : ℕ) (vs : List SessionView) (v : SessionView) (m : Received) (tally : Tally) → session_of i vs ≡ Some v → tally.let_out ≡ total tally + pending vs
-    → (tally_with (outcome_of v m).ended tally).let_out ≡ total (tally_with (outcome_of v m).ended tally) + pending (changed i (λ x. taken_in x m) vs)
+pub sums_taken : (i : ℕ) (vs : List SessionView) (v : SessionView) (m : Received) (tally : Tally) → session_of i vs ≡ Some v → tally.let_out ≡ ended_in tally + pending vs
+    → (tally_with (outcome_of v m).ended tally).let_out ≡ ended_in (tally_with (outcome_of v m).ended tally) + pending (changed i (λ x. taken_in x m) vs)
 sums_taken i vs v m tally is h =
     let e = (outcome_of v m).ended in
     let told : ends e ≡ (is_pending v && not (is_pending (taken_in v m))) = ends_told v.state m ∙ ap (λ b. b && not (some_waits (waiting_of (taken_in v m).state))) (waits_pti (waiting_of v.state)) ∙ ap (λ b. is_pending v && not b) (waits_pti (waiting_of (taken_in v m).state)) in
     let counts = pending_thinner i vs v (λ x. taken_in x m) is (thinner v m) (ends e) told in
     let sum = total_with e tally in
-    out_with e tally ∙ (let all : tally.let_out ≡ total (tally_with e tally) + pending (changed i (λ x. taken_in x m) vs) = omega arith in all)
+    out_with e tally ∙ (let all : tally.let_out ≡ ended_in (tally_with e tally) + pending (changed i (λ x. taken_in x m) vs) = omega arith in all)

@@ -1,3 +1,2 @@
 mod Places
-mod Looks
 mod Runs

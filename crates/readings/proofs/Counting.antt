@@ -1,5 +1,6 @@
 -- Seconds taken off the timers leave no more keys claimed.
-use Rattle.std.proofs.Common.{◌≡◌, ℕ, Bool, true, ◌||◌, leb, List, sym, refl, ap, ◌∙◌, arith}
+use Rattle.std.proofs.Common.{◌≡◌, ℕ, true, leb, List, sym, refl, ap, ◌∙◌}
+use Rattle.std.proofs.lemmas.Bool.{or_left, or_right}
 use Rattle.backoff.specs.declared.timer.BackOffTimer.{BackOffTimer}
 use Rattle.backoff.specs.declared.timer.BackOffTimer.TheVariants.{Stopped, Running, Deactivated}
 use Rattle.backoff.specs.Timer.{counted}
@@ -13,7 +14,7 @@ use Rattle.keys.specs.Octets.{KeyOctets}
 use Rattle.requests.specs.Sound.{claims_fit}
 use Rattle.requests.proofs.Leaving.{three}
 use Rattle.requests.proofs.Rows.{fits_still}
-use Rattle.requests.proofs.Thinning.{or_either, or_first}
+use Rattle.requests.proofs.Thinning.{or_either}
 use Rattle.session.specs.Session.{SessionView, name_key_of, slice_name_key_of, slice_key_of}
 use Rattle.sessions.specs.Live.{live_keys}
 use Rattle.timers.specs.Timers.{TimersView, counted_timers}
@@ -24,9 +25,6 @@ stood seconds Stopped h = h
 stood seconds (Running n) h = refl
 stood seconds Deactivated h = refl
 
-last : (a b : Bool) → b ≡ true → (a || b) ≡ true
-last a b h = grind arith
-
 fewer : (seconds : ℕ) (bs : List (Bar KeyOctets)) (ks : List KeyOctets) → apart bs ≡ true → leb (claimed bs ks) place_count ≡ true → leb (claimed (counted_off seconds bs) ks) place_count ≡ true
 fewer seconds bs ks sound few =
     fits_still bs (counted_off seconds bs) ks ks
@@ -36,8 +34,8 @@ fewer seconds bs ks sound few =
     (λ e.
     let law = counts seconds bs sound in
     let s = stood seconds (timer_on bs q) (sym (ap stands (law.timers q)) ∙ (sym (among_standing q (counted_off seconds bs)) ∙ e)) in
-    or_first (among q (keys_of bs)) (among q ks) (among_standing q bs ∙ s))
-    (λ e. last (among q (keys_of bs)) (among q ks) e))
+    or_left (among q (keys_of bs)) (among q ks) (among_standing q bs ∙ s))
+    (λ e. or_right (among q (keys_of bs)) (among q ks) e))
     few
 
 pub claims_counted : (seconds : ℕ) (t : TimersView) (vs : List SessionView) → apart t.t3396 ≡ true → apart t.t3584 ≡ true → apart t.t3585 ≡ true

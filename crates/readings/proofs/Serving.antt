@@ -1,8 +1,8 @@
 -- The turns of the sessions, one after the other.
-use Rattle.std.proofs.Common.{◌≡◌, ℕ, zero, suc, ◌+◌, ◌-◌, ◌<◌, ◌≤◌, min, Bool, true, false, cond, leb, List, [], ◌∷◌, ◌++◌, map, length, get_or, take, drop, Some, None, Option, sym, refl, ap, ◌∙◌, subst, ⊎_elim, append_assoc, append-nil, add-zero, arith, length-append, length-take}
-use native.Mathlib.Nat.{min-le_left, min-eq_left, min-eq_right}
-use Rattle.std.proofs.lemmas.List.{take_more, drop_more, drop_all, length-take-le, take_all, take-append-le, set_at, map_push, length-map}
-use Rattle.std.proofs.lemmas.List.Sums.{sum_by-cons, sum_by_push, count_by-le-length}
+use Rattle.std.proofs.Common.{◌≡◌, ℕ, suc, ◌+◌, ◌-◌, ◌<◌, ◌≤◌, min, Bool, true, false, cond, leb, List, [], ◌∷◌, ◌++◌, map, length, get_or, take, drop, Some, None, Option, sym, refl, ap, ◌∙◌, subst, ⊎_elim, append_assoc, append-nil, add-zero, arith, length-append, length-take}
+use native.Mathlib.Nat.{min-eq_left, min-eq_right}
+use Rattle.std.proofs.lemmas.List.{take_more, drop_more, length-take-le, take_all, take-append-le, set_at, map_push, length-map}
+use Rattle.std.proofs.lemmas.List.Sums.{sum_by-cons, sum_by_push}
 use Rattle.std.proofs.lemmas.Bool.{cases_lt, lt-ltb, le-ltb, le-leb, and_from}
 use Rattle.std.specs.List.{slice_get}
 use Rattle.std.specs.Option.{option_map}
@@ -23,7 +23,7 @@ use Rattle.ul_nas.specs.Message.{Message}
 use Rattle.uplink.specs.Sizes.{capacity}
 use Rattle.uplink.specs.Waiting.{room}
 use Rattle.readings.specs.Laws.{waiting_once, TurnByTurn}
-use Rattle.readings.specs.Turns.{expired_so, tally_by, with_turn, expired_on, turn_answer, turn_waiting, sum_of, all_expired}
+use Rattle.readings.specs.Turns.{expired_so, tally_by, with_turn, expired_on, turn_answer, turn_waiting, sum_of}
 use Rattle.readings.proofs.Repeating.{repeated_message}
 
 -- the message of one session, if it is to be repeated
@@ -130,19 +130,6 @@ pub record Turned (e : ℕ) (s : StateView) (w : List (List ℕ)) (done rest : L
   pub queue : w' ≡ w ++ take (capacity - length w) (repeated_messages e 1 done)
   pub answer : a ≡ expired e done (length w)
 
-pub turned_none : (e : ℕ) (s : StateView) (w : List (List ℕ)) → Turned e s w [] s.sessions s w (expired_so 0 0 0)
-turned_none e s w = record {
-  state =
-      let same : s.tally.given_up + 0 ≡ s.tally.given_up = omega arith in
-      ap (λ n. with_turn s.sessions (record { let_out = s.tally.let_out; accepted = s.tally.accepted; rejected = s.tally.rejected; returned = s.tally.returned; overtaken = s.tally.overtaken; given_up = n }) s) (sym same);
-  queue = sym (ap (λ x. w ++ x) (none (capacity - length w)) ∙ append-nil w);
-  answer = let least : min 0 (8 - length w) ≡ 0 = min-eq_left (omega arith) in ap (λ n. expired_so n (0 - n) 0) (sym least);
-}
-  where
-    none : (n : ℕ) → take {A = List ℕ} n [] ≡ []
-    none zero = refl
-    none (suc n) = refl
-
 -- the session whose turn it is
 module _ (e : ℕ) (done rest : List SessionView) (v : SessionView) (short : length done < 15) where
   place_now : place_of (length done + 1) ≡ Some (length done)
@@ -229,23 +216,6 @@ module _ (e : ℕ) (s : StateView) (w : List (List ℕ)) (done rest : List Sessi
             ∙ ap (λ g. expired_so (sent_of (due e (done ++ v ∷ [])) (length w)) (due e (done ++ v ∷ []) - sent_of (due e (done ++ v ∷ [])) (length w)) g) (sym giv);
       }
 
--- no count passes the number of sessions served
-pub counts_short : (e n : ℕ) (done : List SessionView) → length done ≤ 15 → ((expired e done n).repeated ≤ 15) × ((expired e done n).skipped ≤ 15) × ((expired e done n).given_up ≤ 15)
-counts_short e n done h =
-    let d = count_by-le-length (repeats e) done in
-    let g = count_by-le-length (gives_up e) done in
-    let least = min-le_left (due e done) (8 - n) in
-    (omega arith, omega arith, omega arith)
-
-pub turn_short : (x : Expiry) (n : ℕ) → ((turn_answer x n).repeated ≤ 1) × ((turn_answer x n).skipped ≤ 1) × ((turn_answer x n).given_up ≤ 1)
-turn_short Nothing n = (omega arith, omega arith, omega arith)
-turn_short GiveUp n = (omega arith, omega arith, omega arith)
-turn_short Repeat n = on (room n)
-  where
-    on : (b : Bool) → ((cond b (expired_so 1 0 0) (expired_so 0 1 0)).repeated ≤ 1) × ((cond b (expired_so 1 0 0) (expired_so 0 1 0)).skipped ≤ 1) × ((cond b (expired_so 1 0 0) (expired_so 0 1 0)).given_up ≤ 1)
-    on true = (omega arith, omega arith, omega arith)
-    on false = (omega arith, omega arith, omega arith)
-
 -- the same for the first k of the fifteen sessions
 pub turn_at : (e k : ℕ) (s : StateView) (w : List (List ℕ)) (s' : StateView) (w' : List (List ℕ)) (a : Expired) (s'' : StateView) (w'' : List (List ℕ)) (b : Expired)
     → length s.sessions ≡ 15 → k < 15 → Turned e s w (take k s.sessions) (drop k s.sessions) s' w' a
@@ -264,39 +234,6 @@ turn_at e k s w s' w' a s'' w'' b full less t eb es ew =
     (subst (λ j. b ≡ turn_answer (expiry_of e (session_of (j + 1) s'.sessions)) (length w')) (sym count) eb)
     (subst (λ j. s'' ≡ expired_on (j + 1) e s') (sym count) es)
     (subst (λ j. w'' ≡ turn_waiting (expiry_of e (session_of (j + 1) s'.sessions)) (j + 1) (session_of (j + 1) s'.sessions) w') (sym count) ew))
-
-pub counts_fit : (e k : ℕ) (s : StateView) (w : List (List ℕ)) (s' : StateView) (w' : List (List ℕ)) (a : Expired) (b : Expired) (x : Expiry)
-    → length s.sessions ≡ 15 → k < 15 → Turned e s w (take k s.sessions) (drop k s.sessions) s' w' a → b ≡ turn_answer x (length w')
-    → (a.repeated + b.repeated < 256) × (a.skipped + b.skipped < 256) × (a.given_up + b.given_up < 256)
-counts_fit e k s w s' w' a b x full less t eb =
-    let count : length (take k s.sessions) ≤ 15 = let n : length (take k s.sessions) ≡ k = length-take-le k s.sessions (omega arith) in omega arith in
-    let c = counts_short e (length w) (take k s.sessions) count in
-    let d = turn_short x (length w') in
-    let r = ap (λ y. y.repeated) t.answer in
-    let sk = ap (λ y. y.skipped) t.answer in
-    let g = ap (λ y. y.given_up) t.answer in
-    let r' = ap (λ y. y.repeated) eb in
-    let sk' = ap (λ y. y.skipped) eb in
-    let g' = ap (λ y. y.given_up) eb in
-    (omega (arith, c.0, d.0), omega (arith, c.1, d.1), omega (arith, c.2, d.2))
-
--- all fifteen have had their turns
-pub record Served (e : ℕ) (s : StateView) (w : List (List ℕ)) (s' : StateView) (w' : List (List ℕ)) (a : Expired) : Type 0 where
-  pub answer : a ≡ expired e s.sessions (length w)
-  pub state : s' ≡ all_expired e s
-  pub queue : w' ≡ w ++ take (capacity - length w) (repeated_messages e 1 s.sessions)
-
-pub all_served : (e k : ℕ) (s : StateView) (w : List (List ℕ)) (s' : StateView) (w' : List (List ℕ)) (a : Expired) → length s.sessions ≡ 15 → 15 ≤ k
-    → Turned e s w (take k s.sessions) (drop k s.sessions) s' w' a → Served e s w s' w' a
-all_served e k s w s' w' a full past t =
-    let whole = take_all k s.sessions (omega arith) in
-    let none = drop_all k s.sessions (omega arith) in
-    let u = subst (λ x. Turned e s w s.sessions x s' w' a) none (subst (λ x. Turned e s w x (drop k s.sessions) s' w' a) whole t) in
-    record {
-      answer = u.answer;
-      state = u.state ∙ ap (λ x. with_turn x (tally_given_up (given_up_of e s.sessions) s.tally) s) (append-nil (map (counted_session e) s.sessions));
-      queue = u.queue;
-    }
 
 -- the law of the turns
 pub turn_by_turn : TurnByTurn

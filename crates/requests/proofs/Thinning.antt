@@ -1,6 +1,6 @@
 -- A session whose waiting request stays or ends, and whose keys stay: what that does to a row of sessions.
 use Rattle.std.proofs.Common.{◌≡◌, ℕ, zero, suc, ◌+◌, Bool, true, false, cond, not, ◌&&◌, ◌||◌, leb, ◌⊎◌, List, [], ◌∷◌, set, Some, None, Option, sym, refl, ap, ◌∙◌, inl, inr, ⊎_elim, arith}
-use Rattle.std.proofs.lemmas.Bool.{and_parts, and_from}
+use Rattle.std.proofs.lemmas.Bool.{and_parts, and_from, or_left}
 use Rattle.std.specs.List.{slice_get}
 use Rattle.bars.specs.declared.bar.Bar.{Bar}
 use Rattle.bars.specs.Claimed.{among, keys_of, claimed}
@@ -60,9 +60,6 @@ module _ (v w : SessionView) where
   differ_less (x ∷ xs) zero e h = ap (λ o. all_differ (with_pti o (waiting_ptis xs))) e ∙ differ_rest (waiting_pti x) (waiting_ptis xs) h
   differ_less (x ∷ xs) (suc n) e h =
       differ_with (waiting_pti x) (waiting_ptis xs) (waiting_ptis (set xs n w)) (λ p. listed_less p xs n e) (differ_less xs n e) h
-
-pub or_first : (a b : Bool) → a ≡ true → (a || b) ≡ true
-or_first a b h = grind arith
 
 -- the keys that sessions claim afterwards were claimed before
 
@@ -139,6 +136,11 @@ module _ (i : ℕ) (vs : List SessionView) (v : SessionView) (rule : SessionView
       (fits_kept vs p.place v (rule v) p.there t.still slice_name_key_of b.t3584 b'.t3584 t.slice_name g)
       (fits_kept vs p.place v (rule v) p.there t.still slice_key_of b.t3585 b'.t3585 t.slice h)
       c
+
+  -- the same where the timers stay
+  pub claims_thinned : (b : TimersView) → claims_fit b vs ≡ true → claims_fit b (changed i rule vs) ≡ true
+  claims_thinned b =
+      claims_thinner b b (λ q. or_left (among q (keys_of b.t3396)) _) (λ q. or_left (among q (keys_of b.t3584)) _) (λ q. or_left (among q (keys_of b.t3585)) _)
 
   -- where it is told by e whether a request ended, the count of those that wait goes by it
   pub pending_thinner : (e : Bool) → e ≡ (is_pending v && not (is_pending (rule v))) → pending (changed i rule vs) + cond e 1 0 ≡ pending vs

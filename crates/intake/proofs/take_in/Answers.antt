@@ -11,7 +11,8 @@ use Rattle.sessions.specs.Table.{session_of, changed}
 use Rattle.session.specs.Session.{session_parts}
 use Rattle.timers.specs.Timers.{timers_view, ruled}
 use Rattle.requests.proofs.Thinning.{differ_thinner, lawful_thinner}
-use Rattle.intake.proofs.Kept.{total, out_with, thinner, claims_taken, sums_taken}
+use Rattle.requests.proofs.Holding.{ended_in}
+use Rattle.intake.proofs.Kept.{out_with, thinner, claims_taken, sums_taken}
 use Rattle.intake.proofs.take_in.Goals as goal
 
 pub invariant_of-state : goal.invariant_of-state
@@ -38,6 +39,6 @@ invariant_of-state c =
       few = omega arith;
       sums =
           ap (λ x. x.let_out) tally ∙ sums_taken i s.sessions v m s.tally is state.sums
-          ∙ ap (λ x. total x + pending (changed i (λ y. taken_in y m) s.sessions)) (sym tally)
-          ∙ ap (λ y. total c.tally_with-state.result + pending y) (sym sessions);
+          ∙ ap (λ x. ended_in x + pending (changed i (λ y. taken_in y m) s.sessions)) (sym tally)
+          ∙ ap (λ y. ended_in c.tally_with-state.result + pending y) (sym sessions);
     }

@@ -1,4 +1,4 @@
-use Rattle.std.proofs.Common.{◌≡◌, ◌<◌, ◌≤◌, map, length, None, sym, refl, ap, ◌∙◌, arith}
+use Rattle.std.proofs.Common.{◌≡◌, ◌≤◌, map, length, None, sym, ap, ◌∙◌, arith}
 use Rattle.std.proofs.lemmas.List.{length-map}
 use Rattle.law.proofs.Lives.{every_life}
 use Rattle.rules.specs.Calls.{Handset}
@@ -6,11 +6,6 @@ use Rattle.rules.specs.Power.{commissioned}
 use Rattle.life.specs.Lives.{goes_on, filled}
 use Rattle.life.specs.Said.{said}
 use Rattle.life.proofs.live.live.Goals as goal
-
-pub returns-then-answers-script : goal.returns-then-answers-script
-returns-then-answers-script g c =
-    let n = length-map c.args.script.now said in
-    record { too_few = (let few : length c.args.answers.now < length (map said c.args.script.now) = omega arith in few); uplink_is = refl; keeper_is = refl; answers = refl }
 
 pub returns : goal.returns
 returns g c =

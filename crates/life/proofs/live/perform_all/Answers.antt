@@ -1,9 +1,7 @@
-use Rattle.std.proofs.Common.{◌≡◌, ◌<◌, map, length, get_or, ap, ◌∙◌, arith}
-use Rattle.std.proofs.lemmas.List.{take_all}
+use Rattle.std.proofs.Common.{◌<◌, length, get_or, ap, ◌∙◌, arith}
 use Rattle.rules.specs.declared.answer.Answer.TheVariants.{NotAvailable}
 use Rattle.rules.specs.Calls.{performed}
 use Rattle.life.specs.declared.call.Call.TheVariants.{SwitchOff}
-use Rattle.life.specs.Lives.{goes_on, filled}
 use Rattle.life.specs.Said.{said, power_view}
 use Rattle.life.proofs.Runs.{answers_more, handset_more}
 use Rattle.life.proofs.live.perform_all.Goals as goal
@@ -20,16 +18,3 @@ loop-i-preserved g c =
       answers_more h script i SwitchOff within c.args.answers.now c.loop-i.answers c.perform-next.result.1 NotAvailable room c.loop-i.invariant.0 told,
       handset_more h script i SwitchOff within (view c.loop-i.power) (view c.perform-next.result.0) c.loop-i.invariant.1 c.perform-next.ensures.after,
     )
-
-pub returns : goal.returns
-returns g c =
-    let h = power_view g.U.Uplink.waiting g.K.Keeper.records c.args.power in
-    let script = c.args.script.now in
-    let all = take_all c.loop-i.i script c.loop-i-test.false in
-    let last : c.loop-i.i ≡ length c.args.script.now = omega arith in
-    record {
-      answers =
-          c.loop-i.invariant.0 ∙ ap (λ x. filled (goes_on h (map said x)).replies c.loop-i.i c.args.answers.now) all
-          ∙ ap (λ n. filled (goes_on h (map said script)).replies n c.args.answers.now) last;
-      handset = c.loop-i.invariant.1 ∙ ap (λ x. (goes_on h (map said x)).handset) all;
-    }
