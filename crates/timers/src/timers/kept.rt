@@ -21,9 +21,13 @@ fn start_on<K: Key + Copy>(table: &mut Table<K>, key: K, seconds: u32) -> bool
     ensures answer { result ≡ takes (K.Key.octets key) (shown K.Key.octets table.old.places) }
     ensures after { shown K.Key.octets table.new.places ≡ (if result then imposed (K.Key.octets key) (Running seconds) (shown K.Key.octets table.old.places) else shown K.Key.octets table.old.places) }
 {
-    !is_standing(table.timer_on(&key))
-        && table.standing() < PLACES
-        && table.impose(key, BackOffTimer::Running(seconds))
+    if is_standing(table.timer_on(&key)) {
+        return false;
+    }
+    if table.standing() >= PLACES {
+        return false;
+    }
+    table.impose(key, BackOffTimer::Running(seconds))
 }
 
 // What is kept of the timer on a key.
