@@ -45,9 +45,9 @@ messages_more e i (x ∷ done) v =
 
 -- as many messages as there are requests to repeat
 repeat_is : (x : Expiry) → is_repeat x ≡ true → x ≡ Repeat
-repeat_is Nothing h = absurd (let z : ◌≡◌ {A = ℕ} 0 1 = ap (λ b. cond b 1 0) h in omega arith)
+repeat_is Nothing h = cc
 repeat_is Repeat h = refl
-repeat_is GiveUp h = absurd (let z : ◌≡◌ {A = ℕ} 0 1 = ap (λ b. cond b 1 0) h in omega arith)
+repeat_is GiveUp h = cc
 
 messages_count : (e i : ℕ) (vs : List SessionView) → length (repeated_messages e i vs) ≡ due e vs
 messages_count e i [] = refl
