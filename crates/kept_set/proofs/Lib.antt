@@ -6,3 +6,4 @@ pub mod Returns
 pub mod Views
 pub mod OfKinds
 pub mod Exact
+pub mod Seconds
