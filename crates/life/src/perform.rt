@@ -49,20 +49,11 @@ fn take_message<U: Uplink>(uplink: &mut U, room: u32) -> TakenMessage
     TakenMessage { length, octets }
 }
 
-// The card of 8 octets.
-fn card_of(octets: &[u8]) -> Option<Card>
-    ensures { option_map (λ c. c.octets) result ≡ (if nat_eq (length octets.now) 8 then Some octets.now else None) }
+// Exactly so many octets.
+fn exactly<const N: usize>(octets: &[u8]) -> Option<[u8; N]>
+    ensures { result ≡ (if nat_eq (length octets.now) N then Some octets.now else None) }
 {
-    let octets: [u8; 8] = octets.try_into().ok()?;
-    Some(Card::new(octets))
-}
-
-// The network of 3 octets.
-fn network_of(octets: &[u8]) -> Option<Network>
-    ensures { option_map (λ n. n.octets) result ≡ (if nat_eq (length octets.now) 3 then Some octets.now else None) }
-{
-    let octets: [u8; 3] = octets.try_into().ok()?;
-    Some(Network::new(octets))
+    octets.try_into().ok()
 }
 
 // Switches on, where card and network have the octets that they should.
@@ -76,13 +67,10 @@ fn switch_on<U: Uplink, K: Keeper>(
     ensures answer { result.1 ≡ (performed (switch_on card.now network.now reading off) (off_view U.Uplink.waiting K.Keeper.records handset)).answer }
     ensures after { power_view U.Uplink.waiting K.Keeper.records result.0 ≡ (performed (switch_on card.now network.now reading off) (off_view U.Uplink.waiting K.Keeper.records handset)).after }
 {
-    let Some(card) = card_of(card) else {
+    let (Some(card), Some(network)) = (exactly::<8>(card), exactly::<3>(network)) else {
         return (Power::Off(handset), Answer::NotAvailable);
     };
-    let Some(network) = network_of(network) else {
-        return (Power::Off(handset), Answer::NotAvailable);
-    };
-    let (on, restored) = handset.switch_on(card, network, reading, off);
+    let (on, restored) = handset.switch_on(Card::new(card), Network::new(network), reading, off);
     (Power::On(on), Answer::SwitchedOn(restored))
 }
 
@@ -119,9 +107,9 @@ fn change_network<U: Uplink, K: Keeper>(handset: &mut SwitchedOn<U, K>, network:
     ensures answer { result ≡ (performed (change_network network.now) (on_view U.Uplink.waiting K.Keeper.records handset.old)).answer }
     ensures after { on_view U.Uplink.waiting K.Keeper.records handset.new ≡ (performed (change_network network.now) (on_view U.Uplink.waiting K.Keeper.records handset.old)).after }
 {
-    match network_of(network) {
+    match exactly::<3>(network) {
         Some(network) => {
-            handset.change_network(network);
+            handset.change_network(Network::new(network));
             Answer::NetworkChanged
         }
         None => Answer::NotAvailable,
