@@ -259,13 +259,9 @@ mod tests {
     }
 
     fn refused(rt: &impl Abort, octets: &[u8]) -> Result<(), Fail> {
-        match read(octets) {
-            Ok(_) => Err(Fail::new("read")),
-            Err(refusal) => {
-                assert_eq!(rt; refusal.number(), 19);
-                Ok(())
-            },
-        }
+        let refusal = read(octets).err().ok_or("read")?;
+        assert_eq!(rt; refusal.number(), 19);
+        Ok(())
     }
 
     // The worked request, cut at every length, and with one octet more.
