@@ -3,8 +3,8 @@ ghost use Rattle.std.specs.Prelude.{◌≡◌, Some};
 ghost use Rattle.backoff.specs.Octet.{reading, shown};
 ghost use Rattle.bench.specs.Answer.{does, shows, words_of};
 
+use crate::hex_octet::HexOctet;
 use backoff::octet::{TimerValue, read, show};
-use script::hex::Capitals;
 use std::fmt;
 
 // An answer about a timer octet.
@@ -47,8 +47,7 @@ impl fmt::Display for Answer {
             Answer::Stops => write!(f, "stops the timer"),
             Answer::Deactivates => write!(f, "deactivates the timer"),
             Answer::Shown(octet) => {
-                let octets = [*octet];
-                let digits = Capitals { octets: &octets };
+                let digits = HexOctet { octet: *octet };
                 write!(f, "shown {digits}")
             }
             Answer::NotUnderstood => write!(f, "not understood"),

@@ -4,6 +4,7 @@
 
 mod answer;
 mod command;
+mod hex_octet;
 mod messages;
 mod records;
 
