@@ -232,12 +232,9 @@ mod tests {
     #[test]
     fn changed_octets(rt: HostRuntime) {
         for place in 0..24 {
-            let mut here = 0u32;
-            for octet in 0..=255u8 {
-                if changed(&rt, place, octet) {
-                    here = here.saturating_add(1);
-                }
-            }
+            let here = (0..=255u8)
+                .filter(|octet| changed(&rt, place, *octet))
+                .count();
             let expected = match place {
                 8 => 253,
                 14 => 1,
