@@ -4,7 +4,6 @@
 
 mod answer;
 mod command;
-mod hex_octet;
 mod messages;
 mod records;
 

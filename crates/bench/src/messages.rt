@@ -1,5 +1,4 @@
 // Messages told in words.
-use crate::hex_octet::HexOctet;
 use dl_nas::message::{Layer, MessageFault, Received};
 use script::hex::Capitals;
 use std::io::Write;
@@ -13,10 +12,7 @@ fn optional_hex<W: fmt::Write>(
     octet: Option<u8>,
 ) -> fmt::Result {
     match octet {
-        Some(octet) => {
-            let digits = HexOctet { octet };
-            write!(f, "{before}{digits}")
-        }
+        Some(octet) => write!(f, "{before}{octet:02X}"),
         None => Ok(()),
     }
 }
@@ -32,10 +28,11 @@ impl fmt::Display for NetworkMessage {
         let identity = self.received.identity;
         let pti = self.received.pti;
         let content = self.received.content;
-        let message_type = HexOctet {
-            octet: content.message_type(),
-        };
-        write!(f, "network {message_type} identity {identity} PTI {pti}")?;
+        let message_type = content.message_type();
+        write!(
+            f,
+            "network {message_type:02X} identity {identity} PTI {pti}"
+        )?;
         optional_hex(f, " cause ", content.cause())?;
         optional_hex(f, " timer ", content.timer())?;
         optional_hex(f, " 5GMM ", self.received.mm_cause)?;
@@ -71,10 +68,11 @@ impl fmt::Display for HandsetMessage<'_> {
     fn fmt<W: fmt::Write>(&self, f: &mut fmt::Formatter<W>) -> fmt::Result {
         let identity = self.message.identity;
         let pti = self.message.pti;
-        let message_type = HexOctet {
-            octet: self.message.content.message_type(),
-        };
-        write!(f, "handset {message_type} identity {identity} PTI {pti}")?;
+        let message_type = self.message.content.message_type();
+        write!(
+            f,
+            "handset {message_type:02X} identity {identity} PTI {pti}"
+        )?;
         let Content::EstablishmentRequest(request) = self.message.content else {
             return Ok(());
         };
