@@ -34,7 +34,7 @@ mod tests {
     fn record_has_the_layout(rt: HostRuntime) -> Result<(), Fail> {
         for kind in 1..4 {
             let mut record = [0xAAu8; 128];
-            assert!(rt; matches!(write(&bar(kind)?, &mut record), Ok(())));
+            assert_eq!(rt; write(&bar(kind)?, &mut record), Ok(()));
             let mut expected = [0u8; 128];
             expected[0] = kind;
             if kind != 1 {
@@ -57,14 +57,14 @@ mod tests {
             return true;
         };
         let mut again = [0u8; 128];
-        matches!(write(&bar, &mut again), Ok(())) && again == *record
+        write(&bar, &mut again) == Ok(()) && again == *record
     }
 
     #[test]
     fn damaged_records_are_told(rt: HostRuntime) -> Result<(), Fail> {
         let mut whole = [0u8; 128];
-        assert!(rt; matches!(write(&bar(2)?, &mut whole), Ok(())));
-        assert!(rt; matches!(read(&whole), Some(bar) if bar.seconds == 300));
+        assert_eq!(rt; write(&bar(2)?, &mut whole), Ok(()));
+        assert_eq!(rt; read(&whole).map(|kept| kept.seconds), Some(300));
         for place in 0..128 {
             let mut damaged = whole;
             damaged[place] ^= 1;
@@ -82,7 +82,7 @@ mod tests {
         let mut record = [0xAAu8; 128];
         let mut bar = bar(1)?;
         bar.seconds = seconds;
-        assert!(rt; matches!(write(&bar, &mut record), Err(RecordRefusal::Seconds)));
+        assert_eq!(rt; write(&bar, &mut record), Err(RecordRefusal::Seconds));
         assert!(rt; record == [0xAA; 128]);
         Ok(())
     }
@@ -94,11 +94,11 @@ mod tests {
         let mut bar = bar(1)?;
         bar.seconds = 35_712_000;
         let mut long = [0xAAu8; 129];
-        assert!(rt; matches!(write(&bar, &mut long), Err(RecordRefusal::Length)));
+        assert_eq!(rt; write(&bar, &mut long), Err(RecordRefusal::Length));
         assert!(rt; long == [0xAA; 129]);
         let mut record = [0u8; 128];
-        assert!(rt; matches!(write(&bar, &mut record), Ok(())));
-        assert!(rt; matches!(read(&record), Some(kept) if kept.seconds == 35_712_000));
+        assert_eq!(rt; write(&bar, &mut record), Ok(()));
+        assert_eq!(rt; read(&record).map(|kept| kept.seconds), Some(35_712_000));
         Ok(())
     }
 }

@@ -4,7 +4,6 @@ ghost use Rattle.backoff.specs.Octet.{reading, shown};
 ghost use Rattle.bench.specs.Answer.{does, shows, words_of};
 
 use backoff::octet::{TimerValue, read, show};
-use script::hex::Capitals;
 use std::fmt;
 
 // An answer about a timer octet.
@@ -41,16 +40,13 @@ pub fn seconds_answer(seconds: u32) -> Answer
 impl fmt::Display for Answer {
     ghost output = { λ a. Some (words_of a) };
 
+    #[tactic(auto, using(crate::proofs::Shown::two_capitals))]
     fn fmt<W: fmt::Write>(&self, f: &mut fmt::Formatter<W>) -> fmt::Result {
-        match self {
+        match *self {
             Answer::Starts(seconds) => write!(f, "starts the timer at {seconds} s"),
             Answer::Stops => write!(f, "stops the timer"),
             Answer::Deactivates => write!(f, "deactivates the timer"),
-            Answer::Shown(octet) => {
-                let octets = [*octet];
-                let digits = Capitals { octets: &octets };
-                write!(f, "shown {digits}")
-            }
+            Answer::Shown(octet) => write!(f, "shown {octet:02X}"),
             Answer::NotUnderstood => write!(f, "not understood"),
         }
     }

@@ -66,13 +66,13 @@ fn call(heap: Global, line: &[u8]) -> Result<Option<Command>, AllocError> {
         return Ok(None);
     };
     Ok(match verb {
-        Verb::Octet => octet(argument).map(|octet| Command::Octet(octet)),
-        Verb::Seconds => number(argument).map(|seconds| Command::Seconds(seconds)),
-        Verb::Read => octets_of(heap, argument)?.map(|octets| Command::Read(octets)),
-        Verb::Sent => octets_of(heap, argument)?.map(|octets| Command::Sent(octets)),
+        Verb::Octet => octet(argument).map(Command::Octet),
+        Verb::Seconds => number(argument).map(Command::Seconds),
+        Verb::Read => octets_of(heap, argument)?.map(Command::Read),
+        Verb::Sent => octets_of(heap, argument)?.map(Command::Sent),
         Verb::Record => octets_of(heap, argument)?
             .filter(|octets| octets.len() == RECORD_LENGTH)
-            .map(|octets| Command::Record(octets)),
+            .map(Command::Record),
     })
 }
 
@@ -85,5 +85,5 @@ pub fn understand(heap: Global, line: &[u8]) -> Result<Line, AllocError> {
         return Ok(Line::NotUnderstood);
     }
     let command = call(heap, line)?;
-    Ok(command.map_or(Line::NotUnderstood, |command| Line::Call(command)))
+    Ok(command.map_or(Line::NotUnderstood, Line::Call))
 }

@@ -5,13 +5,6 @@ use std::io::Write;
 use std::{fmt, io};
 use ul_nas::message::{Content, UplinkMessage};
 
-// An octet to be printed as two capital digits.
-fn hex<W: fmt::Write>(f: &mut fmt::Formatter<W>, before: &str, octet: u8) -> fmt::Result {
-    let octets = [octet];
-    let digits = Capitals { octets: &octets };
-    write!(f, "{before}{digits}")
-}
-
 // An octet that may be absent.
 fn optional_hex<W: fmt::Write>(
     f: &mut fmt::Formatter<W>,
@@ -19,7 +12,7 @@ fn optional_hex<W: fmt::Write>(
     octet: Option<u8>,
 ) -> fmt::Result {
     match octet {
-        Some(octet) => hex(f, before, octet),
+        Some(octet) => write!(f, "{before}{octet:02X}"),
         None => Ok(()),
     }
 }
@@ -35,8 +28,11 @@ impl fmt::Display for NetworkMessage {
         let identity = self.received.identity;
         let pti = self.received.pti;
         let content = self.received.content;
-        hex(f, "network ", content.message_type())?;
-        write!(f, " identity {identity} PTI {pti}")?;
+        let message_type = content.message_type();
+        write!(
+            f,
+            "network {message_type:02X} identity {identity} PTI {pti}"
+        )?;
         optional_hex(f, " cause ", content.cause())?;
         optional_hex(f, " timer ", content.timer())?;
         optional_hex(f, " 5GMM ", self.received.mm_cause)?;
@@ -72,8 +68,11 @@ impl fmt::Display for HandsetMessage<'_> {
     fn fmt<W: fmt::Write>(&self, f: &mut fmt::Formatter<W>) -> fmt::Result {
         let identity = self.message.identity;
         let pti = self.message.pti;
-        hex(f, "handset ", self.message.content.message_type())?;
-        write!(f, " identity {identity} PTI {pti}")?;
+        let message_type = self.message.content.message_type();
+        write!(
+            f,
+            "handset {message_type:02X} identity {identity} PTI {pti}"
+        )?;
         let Content::EstablishmentRequest(request) = self.message.content else {
             return Ok(());
         };

@@ -30,15 +30,11 @@ mod tests {
         layer: Layer,
         place: usize,
     ) -> Result<(), Fail> {
-        match read(message) {
-            Ok(_) => Err(Fail::new("accepted")),
-            Err(fault) => {
-                assert_eq!(rt; fault.number(), number);
-                assert_eq!(rt; fault.layer(), layer);
-                assert_eq!(rt; fault.place(), place);
-                Ok(())
-            }
-        }
+        let fault = read(message).err().ok_or("accepted")?;
+        assert_eq!(rt; fault.number(), number);
+        assert_eq!(rt; fault.layer(), layer);
+        assert_eq!(rt; fault.place(), place);
+        Ok(())
     }
 
     // The message is read, with this content, 5GMM cause and outer timer octet.
@@ -49,15 +45,11 @@ mod tests {
         mm_cause: Option<u8>,
         outer_timer: Option<u8>,
     ) -> Result<(), Fail> {
-        match read(message) {
-            Ok(received) => {
-                assert_eq!(rt; received.content, content);
-                assert_eq!(rt; received.mm_cause, mm_cause);
-                assert_eq!(rt; received.outer_timer, outer_timer);
-                Ok(())
-            }
-            Err(_) => Err(Fail::new("refused")),
-        }
+        let received = read(message)?;
+        assert_eq!(rt; received.content, content);
+        assert_eq!(rt; received.mm_cause, mm_cause);
+        assert_eq!(rt; received.outer_timer, outer_timer);
+        Ok(())
     }
 
     #[test]
@@ -79,9 +71,7 @@ mod tests {
             None,
             None,
         )?;
-        let Ok(received) = read(&ACCEPT) else {
-            return Err(Fail::new("refused"));
-        };
+        let received = read(&ACCEPT)?;
         assert_eq!(rt; received.identity, 0x0F);
         assert_eq!(rt; received.pti, 0xFE);
         Ok(())

@@ -429,12 +429,8 @@ mod tests {
     // The message of a waiting request, and replies.
     #[test]
     fn messages(rt: HostRuntime) -> Result<(), Fail> {
-        let Ok(slice) = Slice::new(Some(&[1])) else {
-            return Err(Fail::new("slice"));
-        };
-        let Ok(name) = Name::new(Some(&[0x03, 0x69, 0x6D, 0x73])) else {
-            return Err(Fail::new("name"));
-        };
+        let slice = Slice::new(Some(&[1]))?;
+        let name = Name::new(Some(&[0x03, 0x69, 0x6D, 0x73]))?;
         let mut out = [0u8; 128];
         let mut session = Session::unused();
         assert_eq!(rt;

@@ -23,9 +23,7 @@ mod tests {
         name: u8,
         pti: u8,
     ) -> Result<(), Fail> {
-        let Ok(name) = Name::new(Some(&[name])) else {
-            return Err(Fail::new("name"));
-        };
+        let name = Name::new(Some(&[name]))?;
         let parts = KeyParts {
             network: Network::new([0x02, 0xF8, 0x39]),
             slice: Slice::absent(),
@@ -141,9 +139,7 @@ mod tests {
             sessions.count(1, 16);
         }
         assert_eq!(rt; names(&sessions.live_keys::<NameKey>()), 0x5);
-        let Ok(name) = Name::new(Some(&[9])) else {
-            return Err(Fail::new("name"));
-        };
+        let name = Name::new(Some(&[9]))?;
         let more = sessions.live_keys::<NameKey>().with(NameKey { name });
         assert_eq!(rt; names(&more), 0x59);
         Ok(())

@@ -27,16 +27,13 @@ mod tests {
     }
 
     // Writes a message: how many octets it has, that those behind it stay, and that it is read back.
-    fn reads_back(rt: &impl Abort, message: &UplinkMessage<'_>, length: usize) -> Result<(), Fail> {
+    fn reads_back(rt: &impl Abort, message: &UplinkMessage<'_>, length: usize) {
         let untouched = [0xAAu8; 128];
         let mut out = untouched;
         assert_eq!(rt; write(message, &mut out), Ok(length));
-        if length >= 128 {
-            return Err(Fail::new("too long"));
-        }
+        assert!(rt; length < 128, "too long");
         assert!(rt; out[length..] == untouched[length..]);
         assert_eq!(rt; read(&out[0..length]), Ok(*message));
-        Ok(())
     }
 
     // A message that is not written: the refusal, and that the buffer stays.
@@ -58,20 +55,14 @@ mod tests {
         }
     }
 
-    fn plain_reads_back(
-        rt: &impl Abort,
-        identity: u8,
-        pti: u8,
-        octet: u8,
-        length: usize,
-    ) -> Result<(), Fail> {
+    fn plain_reads_back(rt: &impl Abort, identity: u8, pti: u8, octet: u8, length: usize) {
         let message = UplinkMessage {
             identity,
             pti,
             content: plain_content(octet),
         };
         assert_eq!(rt; message.content.message_type(), octet);
-        reads_back(rt, &message, length)
+        reads_back(rt, &message, length);
     }
 
     fn plain_refused(rt: &impl Abort, identity: u8, pti: u8, octet: u8) {
@@ -104,34 +95,34 @@ mod tests {
     }
 
     #[test]
-    fn every_kind(rt: HostRuntime) -> Result<(), Fail> {
-        plain_reads_back(&rt, 1, 254, 0xC9, 12)?;
-        plain_reads_back(&rt, 15, 1, 0xD1, 12)?;
-        plain_reads_back(&rt, 2, 0, 0xCC, 12)?;
-        plain_reads_back(&rt, 3, 254, 0xD4, 12)?;
-        plain_reads_back(&rt, 4, 255, 0xD6, 13)
+    fn every_kind(rt: HostRuntime) {
+        plain_reads_back(&rt, 1, 254, 0xC9, 12);
+        plain_reads_back(&rt, 15, 1, 0xD1, 12);
+        plain_reads_back(&rt, 2, 0, 0xCC, 12);
+        plain_reads_back(&rt, 3, 254, 0xD4, 12);
+        plain_reads_back(&rt, 4, 255, 0xD6, 13);
     }
 
     #[test]
-    fn every_request_type(rt: HostRuntime) -> Result<(), Fail> {
-        reads_back(&rt, &request(RequestType::InitialEmergency, None, None), 15)?;
+    fn every_request_type(rt: HostRuntime) {
+        reads_back(&rt, &request(RequestType::InitialEmergency, None, None), 15);
         reads_back(
             &rt,
             &request(RequestType::ExistingEmergency, None, None),
             15,
-        )?;
-        reads_back(&rt, &request(RequestType::Existing, None, None), 15)?;
+        );
+        reads_back(&rt, &request(RequestType::Existing, None, None), 15);
         reads_back(
             &rt,
             &request(RequestType::Initial, Some(&[1, 2, 3, 4]), None),
             21,
-        )?;
-        reads_back(&rt, &request(RequestType::Initial, None, Some(b"a")), 18)?;
+        );
+        reads_back(&rt, &request(RequestType::Initial, None, Some(b"a")), 18);
         reads_back(
             &rt,
             &request(RequestType::Initial, Some(&[1; 8]), Some(&[0x61; 100])),
             longest_encoding(),
-        )
+        );
     }
 
     #[test]
@@ -222,31 +213,28 @@ mod tests {
     }
 
     // The worked request with another octet at one place: refused, or another message with exactly these octets.
-    fn changed(rt: &impl Abort, place: usize, octet: u8) -> Result<bool, Fail> {
+    fn changed(rt: &impl Abort, place: usize, octet: u8) -> bool {
         let mut octets = worked_request();
         if place >= 24 || octets[place] == octet {
-            return Ok(false);
+            return false;
         }
         octets[place] = octet;
         let Ok(message) = read(&octets) else {
-            return Ok(false);
+            return false;
         };
         let mut out = [0u8; 24];
         assert_eq!(rt; write(&message, &mut out), Ok(24));
         assert!(rt; out == octets);
-        Ok(true)
+        true
     }
 
     // Of the 24 times 255 changes, those of the PTI to 2 to 254, of the request type to existing, and of an octet of slice or name are read.
     #[test]
-    fn changed_octets(rt: HostRuntime) -> Result<(), Fail> {
+    fn changed_octets(rt: HostRuntime) {
         for place in 0..24 {
-            let mut here = 0u32;
-            for octet in 0..=255u8 {
-                if changed(&rt, place, octet)? {
-                    here = here.saturating_add(1);
-                }
-            }
+            let here = (0..=255u8)
+                .filter(|octet| changed(&rt, place, *octet))
+                .count();
             let expected = match place {
                 8 => 253,
                 14 => 1,
@@ -255,17 +243,12 @@ mod tests {
             };
             assert_eq!(rt; here, expected);
         }
-        Ok(())
     }
 
     fn refused(rt: &impl Abort, octets: &[u8]) -> Result<(), Fail> {
-        match read(octets) {
-            Ok(_) => Err(Fail::new("read")),
-            Err(refusal) => {
-                assert_eq!(rt; refusal.number(), 19);
-                Ok(())
-            },
-        }
+        let refusal = read(octets).err().ok_or("read")?;
+        assert_eq!(rt; refusal.number(), 19);
+        Ok(())
     }
 
     // The worked request, cut at every length, and with one octet more.
