@@ -40,7 +40,7 @@ pub fn seconds_answer(seconds: u32) -> Answer
 impl fmt::Display for Answer {
     ghost output = { λ a. Some (words_of a) };
 
-    #[tactic(auto, using(crate::proofs::Shown::two_capitals))]
+    #[tactic(auto, using(std::proofs::lemmas::Fmt::hex_byte))]
     fn fmt<W: fmt::Write>(&self, f: &mut fmt::Formatter<W>) -> fmt::Result {
         match *self {
             Answer::Starts(seconds) => write!(f, "starts the timer at {seconds} s"),
