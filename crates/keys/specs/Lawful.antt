@@ -11,6 +11,7 @@ use Rattle.keys.specs.Parts.{name_octets, slice_octets}
 use Rattle.keys.specs.Sames.{same_name, same_slice, same_network, same_name_key, same_slice_name_key, same_slice_key, name_key_octets, slice_name_key_octets, slice_key_octets}
 use Rattle.keys.specs.declared.name.Name.{Name}
 use Rattle.keys.specs.declared.slice.Slice.{Slice}
+use Rattle.keys.specs.declared.network.Network.{Network}
 use Rattle.keys.specs.declared.key.NameKey.{NameKey}
 use Rattle.keys.specs.declared.key.SliceNameKey.{SliceNameKey}
 use Rattle.keys.specs.declared.key.SliceKey.{SliceKey}
@@ -73,7 +74,7 @@ and_true : (b : Bool) → (b && true) ≡ b
 and_true true = refl
 and_true false = refl
 
--- what `==` tests of a name, of a slice and of each kind of key, field by field
+-- what `==` tests of a name, of a slice and of each kind of key, field by field; of a network it is sameness
 abbrev pub equal_names : Name → Name → Bool
 equal_names x y = same_fields x.octets y.octets
 
@@ -95,6 +96,20 @@ name_equal x y = same_by_octets x.octets y.octets
 
 pub slice_equal : (x y : Slice) → equal_slices x y ≡ same_slice x y
 slice_equal x y = same_by_octets x.octets y.octets
+
+-- the laws of `==` on names, slices and networks are those of sameness
+pub names_lawful : Laws equal_names
+names_lawful = laws_as name_equal name_lawful
+
+pub slices_lawful : Laws equal_slices
+slices_lawful = laws_as slice_equal slice_lawful
+
+pub networks_lawful : Laws same_network
+networks_lawful = network_lawful
+
+-- two networks are equal where their octets are the same
+pub network_equal : (x y : Network) → same_network x y ≡ bytes_eq x.octets y.octets
+network_equal x y = refl
 
 name_key_equal : (x y : NameKey) → equal_name_keys x y ≡ same_name_key x y
 name_key_equal x y = name_equal x.name y.name
