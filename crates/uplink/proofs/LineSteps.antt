@@ -1,35 +1,13 @@
 -- The messages of a line, and what a send and a take do to them.
-use Rattle.std.proofs.Common.{◌≡◌, ℕ, suc, ◌+◌, ◌-◌, ◌*◌, ◌/◌, ◌%◌, ◌<◌, ◌≤◌, List, [], ◌∷◌, ◌++◌, length, get_or, take, drop, refl, sym, ap, subst, ◌∙◌, arith}
+use Rattle.std.proofs.Common.{◌≡◌, ℕ, ◌+◌, ◌-◌, ◌*◌, ◌/◌, ◌%◌, ◌<◌, ◌≤◌, List, [], ◌∷◌, ◌++◌, length, get_or, take, drop, refl, sym, ap, subst, ◌∙◌, arith}
 use Rattle.std.specs.List.{flat_map}
 use Rattle.std.specs.Int.{w16, to_be_bytes}
-use Rattle.std.proofs.lemmas.List.{length-append, append_assoc, take_at, drop_at, flat_map_more, length_push, length-drop, drop-drop, get_or-drop}
-use Rattle.std.proofs.lemmas.Grind.{elements}
-use Rattle.uplink.specs.Lined.{length_parsed}
+use Rattle.std.proofs.lemmas.List.{length-append, append_assoc, take_at, drop_at, flat_map_more, length_push, length-drop, drop-drop}
+use Rattle.std.proofs.Math.Seq.{take-length}
+use Rattle.uplink.specs.Lined.{Short, length_parsed, parsed_whole, length_joined, sent_short, rest_short}
 use Rattle.uplink.specs.Makes.{framed, parsed, size}
 use Rattle.uplink.specs.Sizes.{longest_message, longest_framed}
 use Rattle.uplink.specs.Waiting.{oldest}
-
--- each message is short enough for its length
-abbrev pub Short : List (List ℕ) → Type 0
-Short ms = (k : ℕ) → length (get_or ms k []) ≤ longest_message
-
--- what is framed is read again
-parsed_framed : (ms : List (List ℕ)) → parsed (flat_map framed ms) (length ms) ≡ ms
-unfolding parsed
-parsed_framed [] = refl
-parsed_framed (m ∷ ms) =
-    let s : 256 * (length m / 256) + length m % 256 ≡ length m = omega arith in
-    let t : take (length m) (m ++ flat_map framed ms) ≡ m = take_at m _ _ refl in
-    let d : drop (length m) (m ++ flat_map framed ms) ≡ flat_map framed ms = drop_at m _ _ refl in
-    rw (s, t, d) (ap (λ rest. m ∷ rest) (parsed_framed ms))
-
--- how long a line is at most
-length_joined : (ms : List (List ℕ)) → Short ms → length (flat_map framed ms) ≤ longest_framed * length ms
-length_joined [] h = omega arith
-length_joined (m ∷ ms) h =
-    let f = h 0 in
-    let r = length_joined ms (λ k. h (suc k)) in
-    omega (arith, length-append m (flat_map framed ms))
 
 pub room : (line : List ℕ) (count : ℕ) → line ≡ flat_map framed (parsed line count) → Short (parsed line count) → length line ≤ longest_framed * count
 room line count whole short =
@@ -42,12 +20,8 @@ Lined line count ms = (parsed line count ≡ ms) × (line ≡ flat_map framed (p
 -- what a line of these messages is known by
 lined : (line : List ℕ) (count : ℕ) (ms : List (List ℕ)) → line ≡ flat_map framed ms → count ≡ length ms → Short ms → Lined line count ms
 lined line count ms w e h =
-    let p : parsed line count ≡ ms = ap (parsed line) e ∙ ap (λ xs. parsed xs (length ms)) w ∙ parsed_framed ms in
+    let p : parsed line count ≡ ms = parsed_whole line (length line) count ms (take-length line ∙ w) e in
     (p, w ∙ ap (flat_map framed) (sym p), λ k. subst (λ xs. length (get_or xs k []) ≤ longest_message) (sym p) (h k))
-
--- one message more is short enough
-sent_short : (ms : List (List ℕ)) (m : List ℕ) → Short ms → length m ≤ longest_message → Short (ms ++ m ∷ [])
-sent_short ms m h le k = let old = h k in grind (arith, elements)
 
 -- a length in two octets
 two_octets : (n : ℕ) → n ≤ longest_message → to_be_bytes w16 n ≡ n / 256 ∷ n % 256 ∷ []
@@ -83,7 +57,7 @@ module _ (line : List ℕ) (count : ℕ) (whole : line ≡ flat_map framed (pars
       let f = first ms (omega (arith, length_parsed line count)) in
       let w : line' ≡ flat_map framed (drop 1 ms) =
       e ∙ sym (drop-drop (length (oldest ms)) 2 line) ∙ ap (λ xs. drop (length (oldest ms)) (drop 2 xs)) whole ∙ f.2 in
-      lined line' (count - 1) (drop 1 ms) w (omega (arith, length-drop 1 ms, length_parsed line count)) (λ k. rw (get_or-drop 1 ms k []) (short (1 + k)))
+      lined line' (count - 1) (drop 1 ms) w (omega (arith, length-drop 1 ms, length_parsed line count)) (rest_short ms (drop 1 ms) refl short)
 
 -- what the calls on a line rest on
 pub ruleset line_steps = (length_parsed, room, sent, first_fits, taken)
