@@ -1,2 +1,3 @@
 mod LineSteps
+mod SlotSteps
 mod Calls
