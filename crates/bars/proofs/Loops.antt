@@ -1,10 +1,10 @@
 -- Loops over a row of bars, whatever the kind of key.
-use Rattle.std.proofs.Common.{◌≡◌, ℕ, ◌+◌, ◌<◌, ◌≤◌, Bool, true, false, cond, not, List, [], ◌∷◌, ◌++◌, map, length, get_or, take, drop, set, Some, Option, sym, refl, ap, ◌∙◌, append-nil, arith}
+use Rattle.std.proofs.Common.{◌≡◌, ℕ, ◌+◌, ◌<◌, ◌≤◌, Bool, true, false, cond, not, List, [], ◌∷◌, ◌++◌, map, length, get_or, take, drop, set, Some, None, Option, sym, refl, ap, ◌∙◌, append-nil, arith}
 use Rattle.std.proofs.lemmas.List.{take_all, drop_all, length-map, map-set}
 use Rattle.std.proofs.lemmas.Bool.Decides.{nat_tests}
 use Rattle.std.proofs.lemmas.List.Edits.{map_over_more}
 use Rattle.std.specs.List.{prefix_len}
-use Rattle.std.specs.Option.{option_or}
+use Rattle.std.specs.Option.{MatchOption}
 use Rattle.backoff.specs.declared.timer.BackOffTimer.{BackOffTimer}
 use Rattle.keys.specs.Octets.{KeyOctets}
 use Rattle.bars.specs.declared.bar.Bar.{Bar}
@@ -44,12 +44,16 @@ module _ {K : Type 0} (octets : K → KeyOctets) where
   leading_shown p [] = refl
   leading_shown p (b ∷ bs) = ap (λ n. cond (p (bar_octets octets b)) (1 + n) 0) (leading_shown p bs)
 
-  -- the place for a bar on a key, from the two searches for it
-  pub placed : (k : KeyOctets) (bs : List (Bar K)) (held free place : Option ℕ) → held ≡ found (prefix_len (λ b. not (holds k (bar_octets octets b))) bs) (length bs)
-      → free ≡ found (prefix_len (λ b. not (vacant b)) bs) (length bs) → place ≡ option_or held free → place ≡ found (place_for k (shown octets bs)) (length bs)
-  placed k bs held free place h f p =
+  -- the place for a bar on a key, from the two searches for it, the second where the first finds none
+  pub placed : (k : KeyOctets) (bs : List (Bar K)) (held place : Option ℕ) → held ≡ found (prefix_len (λ b. not (holds k (bar_octets octets b))) bs) (length bs)
+      → MatchOption held (place ≡ found (prefix_len (λ b. not (vacant b)) bs) (length bs)) (λ n. place ≡ Some n) → place ≡ found (place_for k (shown octets bs)) (length bs)
+  placed k bs None place h p =
       let same = leading_shown (λ b. not (holds k b)) bs in
       let room = standing_front bs ∙ leading_shown (λ b. stands b.timer) bs in
+      let long = length-map bs (bar_octets octets) in
+      grind (arith, nat_tests)
+  placed k bs (Some n) place h p =
+      let same = leading_shown (λ b. not (holds k b)) bs in
       let long = length-map bs (bar_octets octets) in
       grind (arith, nat_tests)
 

@@ -98,7 +98,10 @@ pub fn standing_in<K>(bars: &[Bar<K>]) -> usize
 fn place_for<K: Key>(bars: &[Bar<K>], key: &K) -> Option<usize>
     ensures { result ≡ found (place_for (K.Key.octets key.now) (shown K.Key.octets bars.now)) (length bars.now) }
 {
-    held_place(bars, key).or(free_place(bars))
+    match held_place(bars, key) {
+        Some(place) => Some(place),
+        None => free_place(bars),
+    }
 }
 
 // Puts a timer at the place for its key; answers whether there is one.
