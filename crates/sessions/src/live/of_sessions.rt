@@ -1,12 +1,12 @@
 // The keys of the sessions that are not INACTIVE and not emergency.
 ghost use Rattle.std.specs.Prelude.{◌≡◌, ◌≤◌, map, length};
-ghost use Rattle.session.specs.Session.{session_view, session_parts};
+ghost use Rattle.session.specs.Session.{session_view};
 ghost use Rattle.sessions.specs.Table.{views, sessions_view};
 ghost use Rattle.sessions.specs.Live.{listed, live, live_keys};
 
 use super::LiveKeys;
+use super::session_key::SessionKey;
 use crate::table::Sessions;
-use keys::parts::PartsKey;
 use session::session::Session;
 
 // Whether the session claims its keys: it is not INACTIVE and not emergency.
@@ -17,14 +17,14 @@ fn is_live(session: &Session) -> bool
 }
 
 // The keys of the live ones of some sessions, in order.
-fn live_keys_in<K: PartsKey + Copy>(sessions: &[Session]) -> LiveKeys<K>
+fn live_keys_in<K: SessionKey + Copy>(sessions: &[Session]) -> LiveKeys<K>
     requires { length sessions.now ≤ 15 }
-    ensures { map K.Key.octets (listed result) ≡ live_keys (λ v. K.PartsKey.part (session_parts v)) (views sessions.now) }
+    ensures { map K.Key.octets (listed result) ≡ live_keys K.SessionKey.part (views sessions.now) }
 {
-    let mut keys = LiveKeys::none(K::of_parts(&Session::unused().parts));
+    let mut keys = LiveKeys::none(K::of_session(&Session::unused()));
     for session in sessions {
         if is_live(session) {
-            keys.push(K::of_parts(&session.parts));
+            keys.push(K::of_session(session));
         }
     }
     keys
@@ -32,8 +32,8 @@ fn live_keys_in<K: PartsKey + Copy>(sessions: &[Session]) -> LiveKeys<K>
 
 impl Sessions {
     // The keys of one kind of the live sessions, in the order of the identities.
-    pub fn live_keys<K: PartsKey + Copy>(&self) -> LiveKeys<K>
-        ensures { map K.Key.octets (listed result) ≡ live_keys (λ v. K.PartsKey.part (session_parts v)) (sessions_view self.now) }
+    pub fn live_keys<K: SessionKey + Copy>(&self) -> LiveKeys<K>
+        ensures { map K.Key.octets (listed result) ≡ live_keys K.SessionKey.part (sessions_view self.now) }
     {
         live_keys_in(&self.records)
     }

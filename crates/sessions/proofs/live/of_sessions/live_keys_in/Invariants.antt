@@ -1,5 +1,4 @@
 use Rattle.std.proofs.Common.{◌≡◌, ◌≤◌, ◌++◌, map, length, drop}
-use Rattle.session.specs.Session.{session_parts}
 use Rattle.sessions.specs.Live.{listed, live_keys}
 use Rattle.sessions.specs.Table.{views}
 use Rattle.sessions.proofs.live.of_sessions.live_keys_in.Given as goal
@@ -7,5 +6,5 @@ use Rattle.sessions.proofs.live.of_sessions.live_keys_in.Given as goal
 -- the keys so far, and those of the sessions that are left
 abbrev pub invariant-loop-session : goal.invariant-loop-session
 invariant-loop-session g l =
-    let keys = live_keys (λ v. g.K.PartsKey.part (session_parts v)) in
+    let keys = live_keys g.K.SessionKey.part in
     (length (listed l.keys) ≤ l.session-index) × (map g.K.Key.octets (listed l.keys) ++ keys (views (drop l.session-index l.sessions)) ≡ keys (views l.sessions))
