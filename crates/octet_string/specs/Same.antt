@@ -1,6 +1,7 @@
 -- Two strings of octets are equal exactly where they hold the same octets.
 use Rattle.std.specs.Prelude.{◌≡◌, ℕ, ◌-◌, Bool, ◌&&◌, Decides, ◌++◌, length, take, replicate, nat_eq}
 use Rattle.std.proofs.Common.{sym, ap, ◌∙◌, arith}
+use Rattle.std.specs.Cmp.{IsEquivalence, IsPartialEquivalence, decided as octets_decided, partial_equiv_from_equiv}
 use Rattle.std.specs.Str.{bytes_eq}
 use Rattle.std.proofs.lemmas.Bool.{and_parts, and_from}
 use Rattle.std.proofs.lemmas.Bool.Decides.{same_from_decides, Decides-eqb}
@@ -34,3 +35,18 @@ module _ {N : ℕ} (x y : OctetString N) where
 
   pub same_by_octets : same_fields ≡ bytes_eq (held x) (held y)
   same_by_octets = same_from_decides same_fields (bytes_eq (held x) (held y)) decided (bytes_eq-Decides (held x) (held y))
+
+octets_equal : IsEquivalence bytes_eq
+octets_equal = octets_decided bytes_eq bytes_eq-Decides
+
+-- it is an equivalence
+pub fields_equal : {N : ℕ} → IsEquivalence (same_fields {N = N})
+fields_equal = record {
+  refl = λ x. same_by_octets x x ∙ octets_equal.refl (held x);
+  symm = λ x y. same_by_octets x y ∙ octets_equal.symm (held x) (held y) ∙ sym (same_by_octets y x);
+  congr = λ x y z e.
+      same_by_octets x z ∙ octets_equal.congr (held x) (held y) (held z) (sym (same_by_octets x y) ∙ e) ∙ sym (same_by_octets y z);
+}
+
+pub fields_alike : {N : ℕ} → IsPartialEquivalence (same_fields {N = N})
+fields_alike = partial_equiv_from_equiv fields_equal

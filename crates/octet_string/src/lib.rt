@@ -3,11 +3,12 @@
 
 ghost use Rattle.std.specs.Prelude.{◌≡◌, ◌-◌, ◌≤◌, length, drop, replicate};
 
+mod equal;
 pub mod methods;
 
 // Up to N octets. The octets behind the last one are zero, so that a string is known by its octets alone, and two strings
 // of the same octets are equal.
-#[derive(Clone, Copy, PartialEq, Eq, Debug)]
+#[derive(Clone, Copy, Debug)]
 pub struct OctetString<const N: usize> {
     count: usize,
     octets: [u8; N],
