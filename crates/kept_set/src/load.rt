@@ -28,7 +28,11 @@ fn with_record(timers: Timers, record: &[u8]) -> Option<Timers>
 {
     let mut timers = timers;
     let bar = read(record)?;
-    timers.restore(&bar).then_some(timers)
+    if timers.restore(&bar) {
+        Some(timers)
+    } else {
+        None
+    }
 }
 
 // The bars of the last records before the trailer.
